@@ -1,0 +1,4 @@
+pub mod Ranges
+pub mod Regions
+pub mod Slots
+pub mod Grounds
