@@ -1,1 +1,2 @@
+-- What the contracts of this crate cite.
 pub mod Refusals
