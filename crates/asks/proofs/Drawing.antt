@@ -30,8 +30,8 @@ module _ (g : Ground) (address count : ℕ) where
   pub goes-more : (a n : ℕ) (xs ys : List Span) (p : Piece) → Goes-on a n xs → Ok (Some p) ≡ drawn g a n → ys ≡ xs ++ (record { start = p .place; len = p .len } ∷ []) → Goes-on ((a + p .len) % 2 ^ 64) (n - p .len) ys
   goes-more a n xs ys p go e w ps end d =
       subst (λ (zs : List Span). Draws g address count zs end)
-        (sym (ap (λ (zs : List Span). zs ++ ps) w ∙ append-assoc xs (record { start = p .place; len = p .len } ∷ []) ps))
-        (go (record { start = p .place; len = p .len } ∷ ps) end (sym e, d))
+      (sym (ap (λ (zs : List Span). zs ++ ps) w ∙ append-assoc xs (record { start = p .place; len = p .len } ∷ []) ps))
+      (go (record { start = p .place; len = p .len } ∷ ps) end (sym e, d))
 
   pub goes-none : (a n : ℕ) (xs : List Span) → Goes-on a n xs → Ok None ≡ drawn g a n → Draws g address count xs None
   goes-none a n xs go e = subst (λ (zs : List Span). Draws g address count zs None) (append-nil xs) (go [] None (sym e))

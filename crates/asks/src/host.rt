@@ -37,7 +37,13 @@ pub fn digest(host: &[u8]) -> u64
 }
 
 // The bytes of a piece.
-pub fn bytes<M: GuestMemoryBackend>(heap: Global, memory: &M, host: &[u8], place: u64, count: u64) -> Result<Answer, AllocError>
+pub fn bytes<M: GuestMemoryBackend>(
+    heap: Global,
+    memory: &M,
+    host: &[u8],
+    place: u64,
+    count: u64,
+) -> Result<Answer, AllocError>
     ensures { λ r. ⌜ made r (λ x. Shown (piece-bytes (M·GuestMemoryBackend .ground (now (memory .entry)) .host) (now (host .entry)) (record { place = place; len = count })) x) ⌝ }
 {
     match bytes_of(memory, host, Piece { place, len: count }) {

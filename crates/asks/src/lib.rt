@@ -1,4 +1,4 @@
 // What is asked of addresses, of a memory and of its host bytes, and the answer to each.
-pub mod numbers;
-pub mod memory;
 pub mod host;
+pub mod memory;
+pub mod numbers;

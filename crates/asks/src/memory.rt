@@ -24,13 +24,24 @@ pub fn find<M: GuestMemoryBackend>(memory: &M, address: u64) -> Answer
     ensures { λ r. ⌜ (M·GuestMemoryBackend .lawful (now (memory .entry)) → r ≡ found (M·GuestMemoryBackend .ground (now (memory .entry))) address) ⌝ }
 {
     match memory.region_at(GuestAddress(address)) {
-        Some(region) => Answer::Region(Span { start: region.start_addr().0, len: region.len() }, region.host_place()),
+        Some(region) => Answer::Region(
+            Span {
+                start: region.start_addr().0,
+                len: region.len(),
+            },
+            region.host_place(),
+        ),
         None => Answer::Absent,
     }
 }
 
 // The pieces that a range draws, and what a further draw is refused for.
-fn draw_all<M: GuestMemoryBackend>(heap: Global, memory: &M, address: u64, count: u64) -> Result<(Vec<Span>, Option<Refusal>), AllocError>
+fn draw_all<M: GuestMemoryBackend>(
+    heap: Global,
+    memory: &M,
+    address: u64,
+    count: u64,
+) -> Result<(Vec<Span>, Option<Refusal>), AllocError>
     ensures { λ r. ⌜ made r (λ p. (M·GuestMemoryBackend .lawful (now (memory .entry)) → Draws (M·GuestMemoryBackend .ground (now (memory .entry))) address count (vec-items (p .0)) (p .1))) ⌝ }
 {
     let mut cursor = PhysicalCursor::new(GuestAddress(address), count);
@@ -41,7 +52,10 @@ fn draw_all<M: GuestMemoryBackend>(heap: Global, memory: &M, address: u64, count
                 let Some(piece) = drawn else {
                     return Ok((pieces, None));
                 };
-                pieces.push(Span { start: piece.place, len: piece.len })?;
+                pieces.push(Span {
+                    start: piece.place,
+                    len: piece.len,
+                })?;
             }
             Err(error) => return Ok((pieces, Some(error.into()))),
         }
@@ -49,7 +63,13 @@ fn draw_all<M: GuestMemoryBackend>(heap: Global, memory: &M, address: u64, count
 }
 
 // The pieces of a range, for an access by its raw value.
-pub fn slices<M: GuestMemoryBackend>(heap: Global, memory: &M, address: u64, count: u64, access: u64) -> Result<Answer, AllocError>
+pub fn slices<M: GuestMemoryBackend>(
+    heap: Global,
+    memory: &M,
+    address: u64,
+    count: u64,
+    access: u64,
+) -> Result<Answer, AllocError>
     ensures { λ r. ⌜ made r (λ x. (M·GuestMemoryBackend .lawful (now (memory .entry)) → Sliced (M·GuestMemoryBackend .ground (now (memory .entry))) address count access x)) ⌝ }
 {
     if let Err(error) = Permissions::from_repr(access) {

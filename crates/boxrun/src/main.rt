@@ -13,7 +13,11 @@ use std::io::BufWriter;
 use std::io::Write;
 
 // What a line is answered, if anything.
-fn answer(exchange: &mut Exchange, heap: Global, line: &[u8]) -> Result<Option<Answer>, AllocError> {
+fn answer(
+    exchange: &mut Exchange,
+    heap: Global,
+    line: &[u8],
+) -> Result<Option<Answer>, AllocError> {
     match read_line(heap, line)? {
         Reading::Nothing => Ok(None),
         Reading::Malformed => Ok(Some(Answer::Error)),

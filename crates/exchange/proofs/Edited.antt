@@ -101,10 +101,11 @@ module _ (host room : ℕ) (xs : List SlotRegion) where
   insertion-made new before after n v l q e =
       let m = length-map xs slot-range in
       let k = place-le (map slot-range xs) (slot-range new) in
-      let i = length-inserted xs (place-in (map slot-range xs) (slot-range new)) new (omega arith) in
-      ( sym (same-insert new before l) ∙ q .0
-      , e ∙ ap (take n) (q .2) ∙ take-at (inserted xs (place-in (map slot-range xs) (slot-range new)) new) (drop n before) n (i ∙ sym (q .1))
-      , ap (λ (ys : List SlotRegion). table-fault host (map f ys)) e ∙ kept-passes host (map f (take n after)) (q .3) )
+      let i = length-inserted xs (place-in (map slot-range xs) (slot-range new)) new (omega arith) in (
+        sym (same-insert new before l) ∙ q .0,
+        e ∙ ap (take n) (q .2) ∙ take-at (inserted xs (place-in (map slot-range xs) (slot-range new)) new) (drop n before) n (i ∙ sym (q .1)),
+        ap (λ (ys : List SlotRegion). table-fault host (map f ys)) e ∙ kept-passes host (map f (take n after)) (q .3),
+      )
 
   pub insertion-refused : (new : SlotRegion) (before after : List SlotRegion) (e : GuestRegionCollectionError) → length before ≡ min room (length xs + 1) → Inserts slot-range slot-place host xs new before after (Err e) → Insertion host room xs new (Err e)
   insertion-refused new before after e l q = sym (same-insert new before l) ∙ q .0
@@ -116,10 +117,11 @@ module _ (host room : ℕ) (xs : List SlotRegion) where
   pub removal-made : (start len : ℕ) (before after : List SlotRegion) (n : ℕ) (x : SlotRegion) (v : Vec SlotRegion Global) → length before ≡ min room (length xs) → Removes slot-range slot-place host xs start len before after (Ok (n, x)) → vec-items v ≡ take n after → Removal host room xs start len (Ok (v, x))
   removal-made start len before after n x v l q e =
       let i = q .2 .0 in
-      let c = length-removed xs i (index-within xs start len i (q .2 .1)) in
-      ( sym (same-remove start len before l) ∙ q .0
-      , (i, q .2 .1, q .2 .2, e ∙ ap (take n) (q .2 .3) ∙ take-at (removed xs i) (drop n before) n (omega (arith, q .1)))
-      , ap (λ (ys : List SlotRegion). table-fault host (map f ys)) e ∙ kept-passes host (map f (take n after)) (q .3) )
+      let c = length-removed xs i (index-within xs start len i (q .2 .1)) in (
+        sym (same-remove start len before l) ∙ q .0,
+        (i, q .2 .1, q .2 .2, e ∙ ap (take n) (q .2 .3) ∙ take-at (removed xs i) (drop n before) n (omega (arith, q .1))),
+        ap (λ (ys : List SlotRegion). table-fault host (map f ys)) e ∙ kept-passes host (map f (take n after)) (q .3),
+      )
 
   pub removal-refused : (start len : ℕ) (before after : List SlotRegion) (e : GuestRegionCollectionError) → length before ≡ min room (length xs) → Removes slot-range slot-place host xs start len before after (Err e) → Removal host room xs start len (Err e)
   removal-refused start len before after e l q = sym (same-remove start len before l) ∙ q .0
@@ -144,7 +146,7 @@ table-kept host v e =
 -- what an edit of the table as it was lent came to, r, is what it comes to of the parts that the
 -- memory keeps
 pub of-parts : {A : Type 0} (D : ℕ → List SlotRegion → A → Type 0) (host len : ℕ) (v : Vec SlotRegion Global) (m : Memory) (xs : List SlotRegion) (edited r : A) → passes host m ≡ true → m ≡ Regions v → len ≡ host → xs ≡ vec-items v →
-  edited ≡ r → (table-fault len (map (shown slot-range slot-place) xs) ≡ None → D len xs edited) → D host (vec-items v) r
+    edited ≡ r → (table-fault len (map (shown slot-range slot-place) xs) ≡ None → D len xs edited) → D host (vec-items v) r
 of-parts D host len v m xs edited r kept is e q w claim =
     let t = kept-table host v (subst (λ (k : Memory). passes host k ≡ true) is kept) in
     subst (D host (vec-items v)) w (subst₂ (λ (h : ℕ) (ys : List SlotRegion). D h ys edited) e q (claim (subst₂ (λ (h : ℕ) (ys : List SlotRegion). table-fault h (map (shown slot-range slot-place) ys) ≡ None) (sym e) (sym q) t)))

@@ -1,3 +1,4 @@
 pub mod Boxes
 pub mod Edited
 pub mod Told
+pub mod Passed

@@ -1,3 +1,4 @@
 pub mod Memories
 pub mod Questions
 pub mod Changes
+pub mod Performs

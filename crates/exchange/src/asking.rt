@@ -55,7 +55,11 @@ pub impl<'a> Surveyed for FrameMemory<'a> as FrameSurveyed {
 }
 
 // The answer of a memory of any kind.
-fn ask_memory<M: Surveyed>(heap: Global, memory: &M, question: Question) -> Result<Answer, AllocError>
+fn ask_memory<M: Surveyed>(
+    heap: Global,
+    memory: &M,
+    question: Question,
+) -> Result<Answer, AllocError>
     ensures { λ r. ⌜ made r (λ x. (M·GuestMemoryBackend .lawful (now (memory .entry)) → Answers (M·GuestMemoryBackend .ground (now (memory .entry))) question x)) ⌝ }
 {
     match question {
@@ -81,7 +85,11 @@ impl GuestBox {
                     Err(_) => Ok(Answer::Error),
                 }
             }
-            Memory::Frames(base, entries) => match FrameMemory::new(*base, entries.as_slice(), host_len) {
+            Memory::Frames(base, entries) => match FrameMemory::new(
+                *base,
+                entries.as_slice(),
+                host_len,
+            ) {
                 Ok(memory) => ask_memory(heap, &memory, question),
                 Err(_) => Ok(Answer::Error),
             },

@@ -23,13 +23,24 @@ use table::error::RefusalFromCollection;
 impl GuestBox {
     // Inserts a region, the table for the new collection having `room` entries. An error where the
     // memory is no collection.
-    pub fn insert(&mut self, heap: Global, room: u64, region: SlotRegion) -> Result<Answer, AllocError>
+    pub fn insert(
+        &mut self,
+        heap: Global,
+        room: u64,
+        region: SlotRegion,
+    ) -> Result<Answer, AllocError>
         ensures { λ r. ⌜ made r (λ x. (x ≡ insert-answer (vec-len (now (self .entry) .host)) room (held (now (self .entry) .memory)) region) × (vec-items (now (self .exit) .host) ≡ vec-items (now (self .entry) .host)) × (vec-items (now (self .exit) .pending) ≡ vec-items (now (self .entry) .pending)) × (held (now (self .exit) .memory) ≡ insert-held (vec-len (now (self .entry) .host)) room (held (now (self .entry) .memory)) region)) ⌝ }
     {
         let Memory::Regions(regions) = &self.memory else {
             return Ok(Answer::Error);
         };
-        let edited = with_region(heap, regions.as_slice(), self.host.len() as u64, room, region)?;
+        let edited = with_region(
+            heap,
+            regions.as_slice(),
+            self.host.len() as u64,
+            room,
+            region,
+        )?;
         match edited {
             Ok(inserted) => {
                 let count = inserted.len() as u64;
@@ -41,18 +52,38 @@ impl GuestBox {
     }
 
     // Removes the region of exactly this start and length, likewise.
-    pub fn remove(&mut self, heap: Global, room: u64, start: u64, len: u64) -> Result<Answer, AllocError>
+    pub fn remove(
+        &mut self,
+        heap: Global,
+        room: u64,
+        start: u64,
+        len: u64,
+    ) -> Result<Answer, AllocError>
         ensures { λ r. ⌜ made r (λ x. (x ≡ remove-answer room (held (now (self .entry) .memory)) start len) × (vec-items (now (self .exit) .host) ≡ vec-items (now (self .entry) .host)) × (vec-items (now (self .exit) .pending) ≡ vec-items (now (self .entry) .pending)) × (held (now (self .exit) .memory) ≡ remove-held room (held (now (self .entry) .memory)) start len)) ⌝ }
     {
         let Memory::Regions(regions) = &self.memory else {
             return Ok(Answer::Error);
         };
-        let edited = without_region(heap, regions.as_slice(), self.host.len() as u64, room, start, len)?;
+        let edited = without_region(
+            heap,
+            regions.as_slice(),
+            self.host.len() as u64,
+            room,
+            start,
+            len,
+        )?;
         match edited {
             Ok((left, removed)) => {
                 let count = left.len() as u64;
                 self.memory = Memory::Regions(left);
-                Ok(Answer::Removed(count, Span { start: removed.start_addr().0, len: removed.len() }, removed.host_place()))
+                Ok(Answer::Removed(
+                    count,
+                    Span {
+                        start: removed.start_addr().0,
+                        len: removed.len(),
+                    },
+                    removed.host_place(),
+                ))
             }
             Err(error) => Ok(Answer::Refused(error.into())),
         }

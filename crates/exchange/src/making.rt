@@ -32,7 +32,11 @@ impl GuestBox {
         ensures { λ r. ⌜ made r (λ b. (vec-len (b .host) ≡ len) × ((p : ℕ) → p < len → getD (vec-items (b .host)) p 0 ≡ filler p) × (vec-items (b .pending) ≡ []) × (held (b .memory) ≡ absent)) ⌝ }
     {
         let host = new_host(heap, len)?;
-        Ok(GuestBox { host, pending: Vec::new(heap), memory: Memory::Absent })
+        Ok(GuestBox {
+            host,
+            pending: Vec::new(heap),
+            memory: Memory::Absent,
+        })
     }
 
     // Adds a region to those that the next collection is made from.
@@ -64,7 +68,11 @@ impl GuestBox {
         ensures answer { λ r. ⌜ r ≡ counted-or-refused (length (frames base (vec-items entries))) (frames-fault (vec-len (now (self .entry) .host)) base (vec-items entries)) ⌝ }
         ensures state { λ r. ⌜ (vec-items (now (self .exit) .host) ≡ vec-items (now (self .entry) .host)) × (vec-items (now (self .exit) .pending) ≡ vec-items (now (self .entry) .pending)) × (held (now (self .exit) .memory) ≡ held-if (frames-fault (vec-len (now (self .entry) .host)) base (vec-items entries)) (framed base (vec-items entries)) (held (now (self .entry) .memory))) ⌝ }
     {
-        match FrameMemory::new(GuestAddress(base), entries.as_slice(), self.host.len() as u64) {
+        match FrameMemory::new(
+            GuestAddress(base),
+            entries.as_slice(),
+            self.host.len() as u64,
+        ) {
             Ok(memory) => {
                 let count = memory.num_regions() as u64;
                 self.memory = Memory::Frames(GuestAddress(base), entries);

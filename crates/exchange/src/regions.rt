@@ -23,12 +23,21 @@ use table::error::GuestRegionCollectionError;
 fn table_of(heap: Global, room: u64, most: usize) -> Result<Vec<SlotRegion>, AllocError>
     ensures { λ r. ⌜ made r (λ v. vec-len v ≡ min room most) ⌝ }
 {
-    let blank = SlotRegion::Window { start: GuestAddress(0), len: 0 };
+    let blank = SlotRegion::Window {
+        start: GuestAddress(0),
+        len: 0,
+    };
     Vec::from_elem(heap, blank, room.min(most as u64) as usize)
 }
 
 // The regions with one more, the table for them having `room` entries.
-pub(crate) fn with_region(heap: Global, table: &[SlotRegion], host_len: u64, room: u64, region: SlotRegion) -> Result<Result<Vec<SlotRegion>, GuestRegionCollectionError>, AllocError>
+pub(crate) fn with_region(
+    heap: Global,
+    table: &[SlotRegion],
+    host_len: u64,
+    room: u64,
+    region: SlotRegion,
+) -> Result<Result<Vec<SlotRegion>, GuestRegionCollectionError>, AllocError>
     ensures { λ r. ⌜ made r (λ x. (table-fault «host_len» (map (shown slot-range slot-place) (now (table .entry))) ≡ None → Insertion «host_len» room (now (table .entry)) region x)) ⌝ }
 {
     let collection = match GuestRegionCollection::from_edited(table, table.len(), host_len) {
@@ -46,7 +55,14 @@ pub(crate) fn with_region(heap: Global, table: &[SlotRegion], host_len: u64, roo
 }
 
 // The regions without the one of exactly this start and length, and that one.
-pub(crate) fn without_region(heap: Global, table: &[SlotRegion], host_len: u64, room: u64, start: u64, len: u64) -> Result<Result<(Vec<SlotRegion>, SlotRegion), GuestRegionCollectionError>, AllocError>
+pub(crate) fn without_region(
+    heap: Global,
+    table: &[SlotRegion],
+    host_len: u64,
+    room: u64,
+    start: u64,
+    len: u64,
+) -> Result<Result<(Vec<SlotRegion>, SlotRegion), GuestRegionCollectionError>, AllocError>
     ensures { λ r. ⌜ made r (λ x. (table-fault «host_len» (map (shown slot-range slot-place) (now (table .entry))) ≡ None → Removal «host_len» room (now (table .entry)) start len x)) ⌝ }
 {
     let collection = match GuestRegionCollection::from_edited(table, table.len(), host_len) {

@@ -13,8 +13,9 @@ pub loop-place-again : need.loop-place-again
 loop-place-again c =
     let q = c .in-Continue-push .ensures tt in
     let n : vec-len (c .loop-place .host) ≡ c .loop-place .place = c .loop-place .inv .0 in
-    let last : getD (vec-items (c .push .last .self)) (vec-len (c .loop-place .host)) 0 ≡ ((c .loop-place .place % 256) * 7 + 3) % 256 = q .places .1 0 refl in
-    ( q .len ∙ ap (λ (m : ℕ). m + 1) n
-    , below-more (λ p. getD (vec-items (c .push .last .self)) p 0 ≡ filler p) (c .loop-place .place)
-        (λ p l. q .places .0 p 0 (omega arith) ∙ c .loop-place .inv .1 p l)
-        (ap (λ (p : ℕ). getD (vec-items (c .push .last .self)) p 0) (sym n) ∙ last ∙ filled (c .loop-place .place)) )
+    let last : getD (vec-items (c .push .last .self)) (vec-len (c .loop-place .host)) 0 ≡ ((c .loop-place .place % 256) * 7 + 3) % 256 = q .places .1 0 refl in (
+      q .len ∙ ap (λ (m : ℕ). m + 1) n,
+      below-more (λ p. getD (vec-items (c .push .last .self)) p 0 ≡ filler p) (c .loop-place .place)
+          (λ p l. q .places .0 p 0 (omega arith) ∙ c .loop-place .inv .1 p l)
+          (ap (λ (p : ℕ). getD (vec-items (c .push .last .self)) p 0) (sym n) ∙ last ∙ filled (c .loop-place .place)),
+    )

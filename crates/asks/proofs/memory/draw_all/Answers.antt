@@ -17,7 +17,7 @@ returns-in-rest g c h =
     let a = c .loop-drawn .cursor .addr .0 in
     let n = c .loop-drawn .cursor .count in
     goes-none gr (c .args .address) (c .args .count) a n (vec-items (c .loop-drawn .pieces)) (c .loop-drawn .inv h)
-      (ap (λ (o : Option Piece). Ok o) (sym (c .in-rest .is)) ∙ c .in-Ok .ensures tt .answer h)
+    (ap (λ (o : Option Piece). Ok o) (sym (c .in-rest .is)) ∙ c .in-Ok .ensures tt .answer h)
 
 pub loop-drawn-again : need.loop-drawn-again
 loop-drawn-again g c h =
@@ -27,7 +27,7 @@ loop-drawn-again g c h =
     let e = ap (λ (o : Option Piece). Ok o) (sym (c .in-Some .is)) ∙ c .in-Ok .ensures tt .answer h in
     let moved : c .draw .last .self ≡ left-after (c .loop-drawn .cursor) (Ok (Some (c .in-Some .piece))) = c .in-Ok .ensures tt .cursor ∙ ap (λ (o : Option Piece). left-after (c .loop-drawn .cursor) (Ok o)) (c .in-Some .is) in
     subst (λ (k : PhysicalCursor). Goes-on gr (c .args .address) (c .args .count) (k .addr .0) (k .count) (vec-items (c .push .last .self))) (sym moved)
-      (goes-more gr (c .args .address) (c .args .count) a n (vec-items (c .loop-drawn .pieces)) (vec-items (c .push .last .self)) (c .in-Some .piece) (c .loop-drawn .inv h) e (c .in-Continue-push .ensures tt .items))
+    (goes-more gr (c .args .address) (c .args .count) a n (vec-items (c .loop-drawn .pieces)) (vec-items (c .push .last .self)) (c .in-Some .piece) (c .loop-drawn .inv h) e (c .in-Continue-push .ensures tt .items))
 
 pub returns-in-Err : need.returns-in-Err
 returns-in-Err g c h =

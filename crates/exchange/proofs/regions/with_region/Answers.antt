@@ -34,7 +34,7 @@ returns-in-Ok-insert-region c h =
     let q = subst₂ (λ (host : ℕ) (ys : List SlotRegion). Inserts slot-range slot-place host ys (c .args .region) before after (Ok (c .in-Ok-insert-region .count))) (made .answer .2) own (c .in-Ok-insert-region .ensures tt .exact (made .lawful)) in
     let k : length after ≡ vec-len (c .in-Continue-dest .dest) = c .insert-region .kept .dest ∙ c .as-mut-slice .ensures .len in
     insertion-made (c .args .host-len) (c .args .room) xs (c .args .region) before after (c .in-Ok-insert-region .count) (c .truncate .last .self) n q
-      (c .truncate .ensures .items ∙ cut-off (c .in-Ok-insert-region .count) (vec-len (c .in-Continue-dest .dest)) after (drop (length after) (c .in-Continue-dest .dest .items)) k)
+    (c .truncate .ensures .items ∙ cut-off (c .in-Ok-insert-region .count) (vec-len (c .in-Continue-dest .dest)) after (drop (length after) (c .in-Continue-dest .dest .items)) k)
 
 pub returns-in-Err-insert-region : need.returns-in-Err-insert-region
 returns-in-Err-insert-region c h =
@@ -47,4 +47,3 @@ returns-in-Err-insert-region c h =
     let n : length before ≡ min (c .args .room) (length xs + 1) = c .as-mut-slice .ensures .len ∙ c .in-Continue-dest .ensures tt ∙ omega (arith, c .saturating-add .ensures) in
     let q = subst₂ (λ (host : ℕ) (ys : List SlotRegion). Inserts slot-range slot-place host ys (c .args .region) before after (Err (c .in-Err-insert-region .error))) (made .answer .2) own (c .in-Err-insert-region .ensures tt .exact (made .lawful)) in
     insertion-refused (c .args .host-len) (c .args .room) xs (c .args .region) before after (c .in-Err-insert-region .error) n q
-

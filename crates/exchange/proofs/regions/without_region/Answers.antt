@@ -34,7 +34,7 @@ returns-in-Ok-remove-region c h =
     let q = subst₂ (λ (host : ℕ) (ys : List SlotRegion). Removes slot-range slot-place host ys (c .args .start) (c .args .len) before after (Ok (c .in-Ok-remove-region .count, c .in-Ok-remove-region .removed))) (made .answer .2) own (c .in-Ok-remove-region .ensures tt .exact (made .lawful)) in
     let k : length after ≡ vec-len (c .in-Continue-dest .dest) = c .remove-region .kept .dest ∙ c .as-mut-slice .ensures .len in
     removal-made (c .args .host-len) (c .args .room) xs (c .args .start) (c .args .len) before after (c .in-Ok-remove-region .count) (c .in-Ok-remove-region .removed) (c .truncate .last .self) n q
-      (c .truncate .ensures .items ∙ cut-off (c .in-Ok-remove-region .count) (vec-len (c .in-Continue-dest .dest)) after (drop (length after) (c .in-Continue-dest .dest .items)) k)
+    (c .truncate .ensures .items ∙ cut-off (c .in-Ok-remove-region .count) (vec-len (c .in-Continue-dest .dest)) after (drop (length after) (c .in-Continue-dest .dest .items)) k)
 
 pub returns-in-Err-remove-region : need.returns-in-Err-remove-region
 returns-in-Err-remove-region c h =
@@ -47,4 +47,3 @@ returns-in-Err-remove-region c h =
     let n : length before ≡ min (c .args .room) (length xs) = c .as-mut-slice .ensures .len ∙ c .in-Continue-dest .ensures tt ∙ refl in
     let q = subst₂ (λ (host : ℕ) (ys : List SlotRegion). Removes slot-range slot-place host ys (c .args .start) (c .args .len) before after (Err (c .in-Err-remove-region .error))) (made .answer .2) own (c .in-Err-remove-region .ensures tt .exact (made .lawful)) in
     removal-refused (c .args .host-len) (c .args .room) xs (c .args .start) (c .args .len) before after (c .in-Err-remove-region .error) n q
-

@@ -20,9 +20,9 @@ returns-in-Ok c =
     let rs = vec-items (c .in-Regions .regions) in
     let own : items (c .in-Ok .collection) ≡ rs = all-items (items (c .in-Ok .collection)) (c .as-slice-table .result .now) rs (length (c .as-slice-table .result .now)) (made .answer .1) (c .as-slice-table .ensures .value) refl in
     let means : ground-of slot-range slot-place (c .in-Ok .collection) ≡ record { host = host; regions = map (shown slot-range slot-place) rs } =
-          λ i. record { host = (made .answer .2 ∙ c .len-host-len .ensures) i; regions = map (shown slot-range slot-place) (own i) } in
+    λ i. record { host = (made .answer .2 ∙ c .len-host-len .ensures) i; regions = map (shown slot-range slot-place) (own i) } in
     made-then (c .ask-memory .result)
-      (λ (x : Answer). Lawful slot-range slot-place (c .in-Ok .collection) → Answers (ground-of slot-range slot-place (c .in-Ok .collection)) (c .args .question) x)
-      (λ (x : Answer). Answers-to (ground-held host (c .args .self .now .memory)) (c .args .question) x)
-      (λ x p. subst (λ (m : Memory). Answers-to (ground-held host m) (c .args .question) x) (sym (c .in-Regions .is)) (subst (λ (g : Ground). Answers g (c .args .question) x) means (p (made .lawful))))
-      (c .ask-memory .ensures)
+    (λ (x : Answer). Lawful slot-range slot-place (c .in-Ok .collection) → Answers (ground-of slot-range slot-place (c .in-Ok .collection)) (c .args .question) x)
+    (λ (x : Answer). Answers-to (ground-held host (c .args .self .now .memory)) (c .args .question) x)
+    (λ x p. subst (λ (m : Memory). Answers-to (ground-held host m) (c .args .question) x) (sym (c .in-Regions .is)) (subst (λ (g : Ground). Answers g (c .args .question) x) means (p (made .lawful))))
+    (c .ask-memory .ensures)

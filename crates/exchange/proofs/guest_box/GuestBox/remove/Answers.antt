@@ -28,7 +28,7 @@ returns-in-Ok c =
     let q = of-parts (λ (h : ℕ) (ys : List SlotRegion) (r : Result (Vec SlotRegion Global × SlotRegion) GuestRegionCollectionError). Removal h (c .args .room) ys (c .args .start) (c .args .len) r) (vec-len (c .args .self .now .host)) (c .len .result) (c .in-Regions .regions) (c .args .self .now .memory) (c .as-slice .result .now) (c .in-Continue-edited .edited) (Ok (c .in-Ok .left, c .in-Ok .removed)) (c .args .self .now .kept) (c .in-Regions .is) (c .len .ensures) (c .as-slice .ensures .value) (c .in-Ok .is) (c .in-Continue-edited .ensures tt) in
     let t = removed-told (c .args .room) (c .args .self .now .memory) (c .in-Regions .regions) (c .in-Regions .is) (vec-len (c .args .self .now .host)) (c .args .start) (c .args .len) (c .in-Ok .left) (c .in-Ok .removed) (c .len-count .result) q (c .len-count .ensures) in
     let told : Removed (c .len-count .result) (record { start = c .start-addr .result .0; len = c .len-in-Ok .result }) (c .host-place .result) ≡ region-told (c .len-count .result) (shown slot-range slot-place (c .in-Ok .removed)) =
-          λ i. Removed (c .len-count .result) (record { start = c .start-addr .ensures i; len = c .len-in-Ok .ensures i }) (c .host-place .ensures i) in
+    λ i. Removed (c .len-count .result) (record { start = c .start-addr .ensures i; len = c .len-in-Ok .ensures i }) (c .host-place .ensures i) in
     (told ∙ t .0, refl, refl, t .1)
 
 pub returns-in-Err : need.returns-in-Err
