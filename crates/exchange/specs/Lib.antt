@@ -2,3 +2,4 @@ pub mod Memories
 pub mod Questions
 pub mod Changes
 pub mod Performs
+pub mod Lines

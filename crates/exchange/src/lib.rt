@@ -7,3 +7,4 @@ pub mod making;
 pub mod memory;
 pub mod question;
 mod regions;
+pub mod lines;
