@@ -1,7 +1,7 @@
 -- The questions that a table of regions is put, in their order. Assumes nothing.
 use mathlib.Core.Bool.{Bool, cond, not}
 use mathlib.Core.List.{List, [], _∷_, map}
-use Prim.Native.Nat.{ℕ, suc, _+_}
+use Prim.Native.Nat.{ℕ, zero, suc, _+_}
 use lib.Dec.{ltb}
 use Rattle.std.specs.declared.option.Option.{Option}
 use Rattle.std.specs.declared.option.Option.the-variants.{Some, None}
@@ -47,3 +47,14 @@ bad-region (Some i) = Some (BadRegion i)
 -- is every region sound? is every neighbouring pair in order and apart?
 abbrev pub table-fault : ℕ → List Region → Option GuestRegionCollectionError
 table-fault host rs = first-no (bad-region (first-unsound host rs)) (neighbours (map range-of rs))
+
+-- the entry at an index, where there is one
+abbrev pub entry-at : {X : Type 0} → List X → ℕ → Option X
+entry-at [] i = None
+entry-at (x ∷ xs) zero = Some x
+entry-at (x ∷ xs) (suc i) = entry-at xs i
+
+-- the entry that the test picks first, or none
+abbrev pub entry : {X : Type 0} → List X → Option ℕ → Option X
+entry xs None = None
+entry xs (Some i) = entry-at xs i
