@@ -41,6 +41,6 @@ impl<'a, R: GuestMemoryRegion + Copy> GuestRegionCollection<'a, R> {
         ensures exact { λ r. ⌜ (Lawful (R·AddressRange .range) (R·GuestMemoryRegion .place) (now (self .entry)) → Removes (R·AddressRange .range) (R·GuestMemoryRegion .place) (now (self .entry) .«host_len») (items (now (self .entry))) (start .0) len (now (dest .entry)) (now (dest .exit)) r) ⌝ }
     {
         let table = self.regions();
-        remove(table, self.host_len, start, len, dest)
+        remove(table, start, len, dest)
     }
 }

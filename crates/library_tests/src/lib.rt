@@ -74,24 +74,33 @@ mod tests {
 
     #[test]
     fn sums_of_addresses() -> Result<(), Fail> {
-        let bottom = GuestAddress(0);
-        let top = GuestAddress(TOP);
-        check_eq(raw(bottom.checked_add(TOP)), Some(TOP))?;
-        check_eq(raw(top.checked_add(0)), Some(TOP))?;
-        check_eq(raw(top.checked_add(1)), None)?;
-        check_eq(raw(top.checked_sub(TOP)), Some(0))?;
-        check_eq(raw(bottom.checked_sub(1)), None)?;
-        let (sum, over) = top.overflowing_add(1);
-        check_eq((sum.0, over), (0, true))?;
-        let (sum, over) = top.overflowing_add(0);
-        check_eq((sum.0, over), (TOP, false))?;
-        let (difference, under) = bottom.overflowing_sub(1);
-        check_eq((difference.0, under), (TOP, true))?;
-        let (difference, under) = top.overflowing_sub(TOP);
-        check_eq((difference.0, under), (0, false))?;
-        check_eq(top.checked_offset_from(bottom), Some(TOP))?;
-        check_eq(bottom.checked_offset_from(GuestAddress(1)), None)?;
-        check_eq(offset(MemoryRegionAddress(TOP).checked_add(1)), None)?;
+        for (addr, other, sum, difference) in [
+            (0, 0, Some(0), Some(0)),
+            (0, 1, Some(1), None),
+            (0, TOP, Some(TOP), None),
+            (TOP, 0, Some(TOP), Some(TOP)),
+            (TOP, 1, None, Some(TOP - 1)),
+            (TOP, TOP, None, Some(0)),
+        ] {
+            check_eq(raw(GuestAddress(addr).checked_add(other)), sum)?;
+            check_eq(raw(GuestAddress(addr).checked_sub(other)), difference)?;
+            check_eq(offset(MemoryRegionAddress(addr).checked_add(other)), sum)?;
+            check_eq(
+                GuestAddress(addr).checked_offset_from(GuestAddress(other)),
+                difference,
+            )?;
+        }
+        for (addr, other, sum, difference) in [
+            (0, 1, (1, false), (TOP, true)),
+            (TOP, 0, (TOP, false), (TOP, false)),
+            (TOP, 1, (0, true), (TOP - 1, false)),
+            (TOP, TOP, (TOP - 1, true), (0, false)),
+        ] {
+            let (above, over) = GuestAddress(addr).overflowing_add(other);
+            check_eq((above.0, over), sum)?;
+            let (below, under) = GuestAddress(addr).overflowing_sub(other);
+            check_eq((below.0, under), difference)?;
+        }
         check_eq(GuestAddress(0x1234).mask(0xff), 0x34)
     }
 
@@ -113,44 +122,56 @@ mod tests {
 
     #[test]
     fn permissions() -> Result<(), Fail> {
-        check_eq(allowed(Permissions::No), [true, false, false, false])?;
-        check_eq(allowed(Permissions::Read), [true, true, false, false])?;
-        check_eq(allowed(Permissions::Write), [true, false, true, false])?;
-        check_eq(allowed(Permissions::ReadWrite), [true, true, true, true])?;
-        check_eq(of_raw(0), Ok(0))?;
-        check_eq(of_raw(1), Ok(1))?;
-        check_eq(of_raw(2), Ok(2))?;
-        check_eq(of_raw(3), Ok(3))?;
-        check_eq(of_raw(4), Err((14, 0)))?;
+        for (held, answers) in [
+            (Permissions::No, [true, false, false, false]),
+            (Permissions::Read, [true, true, false, false]),
+            (Permissions::Write, [true, false, true, false]),
+            (Permissions::ReadWrite, [true, true, true, true]),
+        ] {
+            check_eq(allowed(held), answers)?;
+            check_eq(held.has_write(), answers[2])?;
+        }
+        for (raw, answer) in [
+            (0, Ok(0)),
+            (1, Ok(1)),
+            (2, Ok(2)),
+            (3, Ok(3)),
+            (4, Err((14, 0))),
+            (TOP, Err((14, 0))),
+        ] {
+            check_eq(of_raw(raw), answer)?;
+        }
         check_eq(Permissions::Read.union(Permissions::Write).repr(), 3)?;
-        check_eq(Permissions::Read.intersection(Permissions::Write).repr(), 0)?;
-        check(Permissions::ReadWrite.has_write() && !Permissions::Read.has_write())
+        check_eq(Permissions::Read.intersection(Permissions::Write).repr(), 0)
     }
 
     #[test]
     fn ranges() -> Result<(), Fail> {
         let last = ram(TOP - 0xfff, 0x1000, 0);
-        check_eq(last.last_addr().0, TOP)?;
-        check_eq(ram(0x1000, 1, 0).last_addr().0, 0x1000)?;
-        check_eq(offset(last.to_region_addr(GuestAddress(TOP))), Some(0xfff))?;
         check_eq(
-            offset(last.to_region_addr(GuestAddress(TOP - 0x1000))),
-            None,
+            (last.last_addr().0, ram(0x1000, 1, 0).last_addr().0),
+            (TOP, 0x1000),
         )?;
+        for (addr, answer) in [
+            (TOP, Some(0xfff)),
+            (TOP - 0xfff, Some(0)),
+            (TOP - 0x1000, None),
+        ] {
+            check_eq(offset(last.to_region_addr(GuestAddress(addr))), answer)?;
+        }
+        for (base, other, answer) in [
+            (0xfff, 0, Some(0xfff)),
+            (0xff0, 0xf, Some(0xfff)),
+            (0xff0, 0x10, None),
+            (2, TOP, None),
+        ] {
+            check_eq(
+                offset(last.checked_offset(MemoryRegionAddress(base), other)),
+                answer,
+            )?;
+        }
         check_eq(
             offset(last.check_address(MemoryRegionAddress(0x1000))),
-            None,
-        )?;
-        check_eq(
-            offset(last.checked_offset(MemoryRegionAddress(0xff0), 0xf)),
-            Some(0xfff),
-        )?;
-        check_eq(
-            offset(last.checked_offset(MemoryRegionAddress(0xff0), 0x10)),
-            None,
-        )?;
-        check_eq(
-            offset(last.checked_offset(MemoryRegionAddress(2), TOP)),
             None,
         )
     }
@@ -174,18 +195,25 @@ mod tests {
     fn tables() -> Result<(), Fail> {
         let low = ram(0x1000, 0x1000, 0);
         let high = ram(0x2000, 0x1000, 0x1000);
-        check_eq(made(&[], 0x2000), (1, 0))?;
-        check_eq(made(&[low, high], 0x2000), (0, 0))?;
-        check_eq(made(&[low, high], 0x1fff), (4, 1))?;
-        check_eq(made(&[low, ram(0x2000, 0, 0)], 0x2000), (4, 1))?;
-        check_eq(made(&[high, low], 0x2000), (2, 0))?;
-        check_eq(made(&[low, ram(0x1fff, 1, 0)], 0x2000), (3, 0))?;
-        check_eq(made(&[low, low], 0x2000), (3, 0))?;
-        check_eq(made(&[high, low, ram(0x1fff, 1, 0)], 0x2000), (2, 0))?;
-        check_eq(made(&[low, low, ram(0, 1, 0)], 0x2000), (3, 0))?;
-        check_eq(made(&[high, low, ram(0x4000, 1, 0x2000)], 0x2000), (4, 2))?;
-        check_eq(made(&[ram(TOP - 0xfff, 0x1000, 0)], 0x2000), (0, 0))?;
-        check_eq(made(&[ram(TOP - 0xfff, 0x1001, 0)], 0x2000), (4, 0))
+        let inside = ram(0x1fff, 1, 0);
+        let last = ram(TOP - 0xfff, 0x1000, 0);
+        let cases: [(&[RamRegion], (u8, u64)); 11] = [
+            (&[], (1, 0)),
+            (&[low, high], (0, 0)),
+            (&[low, ram(0x2000, 0x1001, 0x1000)], (4, 1)),
+            (&[low, ram(0x2000, 0, 0)], (4, 1)),
+            (&[high, low], (2, 0)),
+            (&[low, inside], (3, 0)),
+            (&[high, low, inside], (2, 0)),
+            (&[low, low, ram(0, 1, 0)], (3, 0)),
+            (&[high, low, ram(0x4000, 1, 0x2000)], (4, 2)),
+            (&[low, last], (0, 0)),
+            (&[ram(TOP - 0xfff, 0x1001, 0)], (4, 0)),
+        ];
+        for (table, refusal) in cases {
+            check_eq(made(table, 0x2000), refusal)?;
+        }
+        Ok(())
     }
 
     fn starts(table: &[RamRegion; 4]) -> [u64; 4] {
@@ -314,16 +342,21 @@ mod tests {
         let Ok(memory) = GuestRegionCollection::from_regions(&table, 0x3000) else {
             return Err(Fail::new("the table is refused"));
         };
-        check_eq(found(&memory, 0), None)?;
-        check_eq(found(&memory, 0xfff), None)?;
-        check_eq(found(&memory, 0x1000), Some(0x1000))?;
-        check_eq(found(&memory, 0x1fff), Some(0x1000))?;
-        check_eq(found(&memory, 0x2000), Some(0x2000))?;
-        check_eq(found(&memory, 0x27ff), Some(0x2000))?;
-        check_eq(found(&memory, 0x2800), None)?;
-        check_eq(found(&memory, TOP - 0x1000), None)?;
-        check_eq(found(&memory, TOP), Some(TOP - 0xfff))?;
-        check_eq(memory.last_addr().0, TOP)?;
+        for (addr, start) in [
+            (0, None),
+            (0xfff, None),
+            (0x1000, Some(0x1000)),
+            (0x1fff, Some(0x1000)),
+            (0x2000, Some(0x2000)),
+            (0x27ff, Some(0x2000)),
+            (0x2800, None),
+            (TOP - 0x1000, None),
+            (TOP - 0xfff, Some(TOP - 0xfff)),
+            (TOP, Some(TOP - 0xfff)),
+        ] {
+            check_eq(found(&memory, addr), start).note(addr)?;
+        }
+        check_eq((memory.num_regions(), memory.last_addr().0), (3, TOP))?;
         let empty: GuestRegionCollection<RamRegion> = GuestRegionCollection::new(0x3000);
         check_eq(found(&empty, 0), None)?;
         check_eq(
@@ -341,20 +374,23 @@ mod tests {
         let Ok(memory) = GuestRegionCollection::from_regions(&table, 0x1020) else {
             return Err(Fail::new("the table is refused"));
         };
-        check_eq(found(&memory, 0x2fff), Some(0x2000))?;
-        check_eq(resolved(&memory, 0x1fff), Some((0x1000, Some(0x101f))))?;
-        check_eq(resolved(&memory, 0x2000), Some((0x2000, None)))?;
-        check_eq(resolved(&memory, 0x3000), None)?;
-        check_eq(
-            raw(memory.check_address(GuestAddress(0x2fff))),
-            Some(0x2fff),
-        )?;
-        check_eq(raw(memory.checked_offset(GuestAddress(0x2fff), 1)), None)?;
-        check_eq(raw(memory.checked_offset(GuestAddress(0x2fff), TOP)), None)?;
-        check(
-            memory.address_in_range(GuestAddress(0x1000))
-                && !memory.address_in_range(GuestAddress(0xfff)),
-        )
+        for (addr, answer) in [
+            (0xfff, None),
+            (0x1fff, Some((0x1000, Some(0x101f)))),
+            (0x2000, Some((0x2000, None))),
+            (0x2fff, Some((0x2000, None))),
+            (0x3000, None),
+        ] {
+            check_eq(resolved(&memory, addr), answer).note(addr)?;
+            check_eq(
+                memory.address_in_range(GuestAddress(addr)),
+                answer.is_some(),
+            ).note(addr)?;
+        }
+        let last = GuestAddress(0x2fff);
+        check_eq(raw(memory.checked_offset(last, 0)), Some(0x2fff))?;
+        check_eq(raw(memory.checked_offset(last, 1)), None)?;
+        check_eq(raw(memory.checked_offset(last, TOP)), None)
     }
 
     // What making frame memory is refused for; (0, 0) where it is made.
@@ -367,15 +403,21 @@ mod tests {
 
     #[test]
     fn refused_frames() -> Result<(), Fail> {
-        check_eq(framed(0x1001, &[1, 9], 0x1000), (4, 0))?;
-        check_eq(framed(0x1000, &[], 0x1000), (4, 0))?;
-        check_eq(framed(0x1000, &[0; 1024], 0), (0, 0))?;
-        check_eq(framed(0x1000, &[0; 1025], 0), (4, 0))?;
-        check_eq(framed(TOP - 0xfff, &[1], 0x1000), (0, 0))?;
-        check_eq(framed(TOP - 0xfff, &[1, 1], 0x1000), (4, 0))?;
-        check_eq(framed(0, &[2, 0, 3, 4], 0x2fff), (4, 2))?;
-        check_eq(framed(0, &[2, 0, 3, 4], 0x3000), (4, 3))?;
-        check_eq(framed(0, &[2, 0, 3, 4], 0x4000), (0, 0))
+        let cases: [(u64, &[u32], u64, (u8, u64)); 9] = [
+            (0x1001, &[1, 9], 0x1000, (4, 0)),
+            (0x1000, &[], 0x1000, (4, 0)),
+            (0x1000, &[0; 1024], 0, (0, 0)),
+            (0x1000, &[0; 1025], 0, (4, 0)),
+            (TOP - 0xfff, &[1], 0x1000, (0, 0)),
+            (TOP - 0xfff, &[1, 1], 0x1000, (4, 0)),
+            (0, &[2, 0, 3, 4], 0x2fff, (4, 2)),
+            (0, &[2, 0, 3, 4], 0x3000, (4, 3)),
+            (0, &[2, 0, 3, 4], 0x4000, (0, 0)),
+        ];
+        for (base, entries, host_len, refusal) in cases {
+            check_eq(framed(base, entries, host_len), refusal)?;
+        }
+        Ok(())
     }
 
     #[test]
@@ -385,20 +427,27 @@ mod tests {
             return Err(Fail::new("the entries are refused"));
         };
         check_eq((memory.num_regions(), memory.last_addr().0), (2, 0x12fff))?;
-        check_eq(resolved(&memory, 0xffff), None)?;
-        check_eq(resolved(&memory, 0x10000), Some((0x10000, Some(0x1000))))?;
-        check_eq(resolved(&memory, 0x10fff), Some((0x10000, Some(0x1fff))))?;
-        check_eq(resolved(&memory, 0x11000), None)?;
-        check_eq(resolved(&memory, 0x11fff), None)?;
-        check_eq(resolved(&memory, 0x12000), Some((0x12000, Some(0))))?;
-        check_eq(resolved(&memory, 0x13000), None)?;
-        check_eq(resolved(&memory, TOP), None)?;
+        for (addr, answer) in [
+            (0xffff, None),
+            (0x10000, Some((0x10000, Some(0x1000)))),
+            (0x10fff, Some((0x10000, Some(0x1fff)))),
+            (0x11000, None),
+            (0x11fff, None),
+            (0x12000, Some((0x12000, Some(0)))),
+            (0x12fff, Some((0x12000, Some(0xfff)))),
+            (0x13000, None),
+            (TOP, None),
+        ] {
+            check_eq(resolved(&memory, addr), answer).note(addr)?;
+        }
         let present: [u32; 1] = [1];
         let Ok(high) = FrameMemory::new(GuestAddress(TOP - 0xfff), &present, 0x1000) else {
             return Err(Fail::new("the entries are refused"));
         };
-        check_eq(high.last_addr().0, TOP)?;
-        check_eq(resolved(&high, TOP), Some((TOP - 0xfff, Some(0xfff))))?;
+        check_eq(
+            (high.last_addr().0, resolved(&high, TOP)),
+            (TOP, Some((TOP - 0xfff, Some(0xfff)))),
+        )?;
         let absent: [u32; 1] = [0];
         let Ok(none) = FrameMemory::new(GuestAddress(0x1000), &absent, 0) else {
             return Err(Fail::new("the entries are refused"));
@@ -487,12 +536,16 @@ mod tests {
     #[test]
     fn bytes_of_pieces() -> Result<(), Fail> {
         let host = [10, 11, 12, 13, 14, 15, 16, 17];
-        check_eq(bytes(&host, 3, 4), Ok((4, Some(13))))?;
-        check_eq(bytes(&host, 0, 8), Ok((8, Some(10))))?;
-        check_eq(bytes(&host, 8, 0), Ok((0, None)))?;
-        check_eq(bytes(&host, 3, 6), Err((11, 0)))?;
-        check_eq(bytes(&host, 9, 0), Err((11, 0)))?;
-        check_eq(bytes(&host, 1, TOP), Err((11, 0)))?;
+        for (place, len, answer) in [
+            (3, 4, Ok((4, Some(13)))),
+            (0, 8, Ok((8, Some(10)))),
+            (8, 0, Ok((0, None))),
+            (3, 6, Err((11, 0))),
+            (9, 0, Err((11, 0))),
+            (1, TOP, Err((11, 0))),
+        ] {
+            check_eq(bytes(&host, place, len), answer)?;
+        }
         check_eq(bytes(&host[0..7], 9, 0), Err((7, 0)))
     }
 }

@@ -1,9 +1,8 @@
 // The two kinds of region: RAM, and a slot that is RAM or a window.
 ghost use mathlib.Core.Path.{_≡_};
 ghost use denote.Ref.{now};
-ghost use Rattle.std.specs.declared.option.Option.the-variants.{Some};
 ghost use Rattle.region.specs.Regions.{shown};
-ghost use Rattle.region.specs.Slots.{slot-range, slot-place};
+ghost use Rattle.region.specs.Slots.{ram-range, ram-place, slot-range, slot-place};
 use crate::region::AddressRange;
 use crate::region::GuestMemoryRegion;
 use address::address::GuestAddress;
@@ -17,7 +16,7 @@ pub struct RamRegion {
 }
 
 pub impl AddressRange for RamRegion as RamAddressRange {
-    ghost range = { λ s. record { start = s .start .0; len = s .len } };
+    ghost range = { ram-range };
 
     fn start_addr(&self) -> GuestAddress {
         self.start
@@ -29,7 +28,7 @@ pub impl AddressRange for RamRegion as RamAddressRange {
 }
 
 pub impl GuestMemoryRegion for RamRegion as RamGuestMemoryRegion {
-    ghost place = { λ s. Some (s .place) };
+    ghost place = { ram-place };
 
     fn host_place(&self) -> Option<u64> {
         Some(self.place)

@@ -119,13 +119,12 @@ fn index_of<R: GuestMemoryRegion>(table: &[R], start: GuestAddress, len: u64) ->
 // answers their number and the removed region.
 pub fn remove<R: GuestMemoryRegion + Copy>(
     table: &[R],
-    host_len: u64,
     start: GuestAddress,
     len: u64,
     dest: &mut [R],
 ) -> Result<(usize, R), GuestRegionCollectionError>
     ensures within { λ r. ⌜ ByOk r (λ p. p .0 ≤ length (now (dest .exit))) (λ _. now (dest .exit) ≡ now (dest .entry)) ⌝ }
-    ensures exact { λ r. ⌜ (Keeps-meaning (record { host = «host_len»; regions = map (shown (R·AddressRange .range) (R·GuestMemoryRegion .place)) (now (table .entry)) }) → Removes (R·AddressRange .range) (R·GuestMemoryRegion .place) «host_len» (now (table .entry)) (start .0) len (now (dest .entry)) (now (dest .exit)) r) ⌝ }
+    ensures exact { λ r. ⌜ ((host : ℕ) → Keeps-meaning (record { host = host; regions = map (shown (R·AddressRange .range) (R·GuestMemoryRegion .place)) (now (table .entry)) }) → Removes (R·AddressRange .range) (R·GuestMemoryRegion .place) host (now (table .entry)) (start .0) len (now (dest .entry)) (now (dest .exit)) r) ⌝ }
 {
     let Some(i) = index_of(table, start, len) else {
         return Err(GuestRegionCollectionError::NoMemoryRegion);

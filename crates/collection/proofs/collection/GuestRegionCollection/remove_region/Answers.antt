@@ -12,5 +12,5 @@ returns g c =
     record {
       within = c .remove .ensures .within;
       exact = λ k. subst (λ (ys : List (g .R .Denot)). Removes (g .R·AddressRange .range) (g .R·GuestMemoryRegion .place) (c .args .self .now .«host_len») ys (c .args .start .0) (c .args .len) (c .args .dest .now) (c .remove .last .dest) (c .remove .result)) (c .regions-table .ensures)
-          (c .remove .ensures .exact (subst (λ (ys : List (g .R .Denot)). Keeps-meaning (record { host = c .args .self .now .«host_len»; regions = map f ys })) (sym (c .regions-table .ensures)) k));
+          (c .remove .ensures .exact (c .args .self .now .«host_len») (subst (λ (ys : List (g .R .Denot)). Keeps-meaning (record { host = c .args .self .now .«host_len»; regions = map f ys })) (sym (c .regions-table .ensures)) k));
     }
