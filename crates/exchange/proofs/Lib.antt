@@ -1,4 +1,1 @@
-pub mod Boxes
-pub mod Edited
-pub mod Told
-pub mod Passed
+mod Passed

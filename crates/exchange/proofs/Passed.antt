@@ -6,7 +6,7 @@ use Rattle.std.specs.declared.option.Option.the-variants.{Some, None}
 use Rattle.answers.specs.declared.Answer.{Answer}
 use Rattle.commands.specs.declared.Command.{Command}
 use Rattle.commands.specs.declared.Command.the-variants.{Host, Ram, Window, Collect, Frames, InsertRam, InsertWindow, Remove, Count, Find, Last, Add, Sub, Offset, Mask, Slices, Bytes, Digest}
-use Rattle.exchange.specs.declared.guest_box.GuestBox.{GuestBox}
+use Rattle.guest_box.specs.declared.guest_box.GuestBox.{GuestBox}
 use Rattle.exchange.specs.Performs.{Performed, Performed-by, Performs}
 
 passed : (o : Option GuestBox) (c : Command) (x : Answer) (after : Option GuestBox) → ((n : ℕ) → c ≡ Host n → ⊥) → ((a n : ℕ) → c ≡ Add a n → ⊥) → ((a n : ℕ) → c ≡ Sub a n → ⊥) → ((a n : ℕ) → c ≡ Offset a n → ⊥) → ((a n : ℕ) → c ≡ Mask a n → ⊥) → Performed-by o c x after → Performs o c x after

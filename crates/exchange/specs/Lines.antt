@@ -9,7 +9,7 @@ use Rattle.answers.specs.declared.Answer.the-variants.{Error}
 use Rattle.commands.specs.Commands.{Tells}
 use Rattle.commands.specs.declared.Reading.{Reading}
 use Rattle.commands.specs.declared.Reading.the-variants.{Nothing, Malformed, Asks}
-use Rattle.exchange.specs.declared.guest_box.GuestBox.{GuestBox}
+use Rattle.guest_box.specs.declared.guest_box.GuestBox.{GuestBox}
 use Rattle.exchange.specs.Performs.{Same-box, Performs}
 
 -- a line that asks for nothing is not answered, one that is no command is an error, and a command is

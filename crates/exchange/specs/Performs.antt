@@ -20,11 +20,11 @@ use Rattle.answers.specs.declared.Answer.the-variants as answer
 use Rattle.commands.specs.declared.Command.{Command}
 use Rattle.commands.specs.declared.Command.the-variants.{Host, Ram, Window, Collect, Frames, InsertRam, InsertWindow, Remove, Count, Find, Last, Add, Sub, Offset, Mask, Slices, Bytes, Digest}
 use Rattle.asks.specs.Asked.{number-or-none, filler, fnv, Shown}
-use Rattle.exchange.specs.declared.guest_box.GuestBox.{GuestBox}
-use Rattle.exchange.specs.declared.question.Question.the-variants as question
-use Rattle.exchange.specs.Memories.{Held, absent, over, framed, held, ground-held, held-if, counted-or-refused}
-use Rattle.exchange.specs.Questions.{Answers-to}
-use Rattle.exchange.specs.Changes.{insert-answer, insert-held, remove-answer, remove-held}
+use Rattle.guest_box.specs.declared.guest_box.GuestBox.{GuestBox}
+use Rattle.survey.specs.declared.question.Question.the-variants as question
+use Rattle.guest_box.specs.Memories.{Held, absent, over, framed, held, ground-held, held-if, counted-or-refused}
+use Rattle.survey.specs.Questions.{Answers-to}
+use Rattle.guest_box.specs.Changes.{insert-answer, insert-held, remove-answer, remove-held}
 
 -- the box holds these host bytes, these regions to collect, and this memory
 abbrev pub Holds : GuestBox → List ℕ → List SlotRegion → Held → Type 0

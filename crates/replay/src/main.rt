@@ -29,5 +29,8 @@ fn main(rt: LibcRuntime) -> io::Result<()> {
         }
     }
     let left = expected.count();
-    println!(rt, "{same} answers as the original's, {other} others, {left} missing")
+    println!(
+        rt,
+        "{same} answers as the original's, {other} others, {left} missing"
+    )
 }

@@ -15,14 +15,15 @@ returns-in-Some g c =
     let a = c .args .addr .0 in
     let xs = c .regions-table .result .now in
     let q = c .in-Some .ensures tt in
-    record
-      { item = λ h.
+    record {
+      item = λ h.
           sym (entry-read xs (c .in-Some .i) (c .index-table-i .result) (q .within) (c .index-table-i .is))
           ∙ ap (entry xs) (q .exact (ascending-as range place xs (items (c .args .self .now)) host (c .regions-table .ensures) h))
-          ∙ ap (λ (ys : List (g .R .Denot)). entry ys (holder (map range ys) a)) (c .regions-table .ensures)
-      ; region = λ h.
+          ∙ ap (λ (ys : List (g .R .Denot)). entry ys (holder (map range ys) a)) (c .regions-table .ensures);
+      region = λ h.
           holding-some range place xs a (c .in-Some .i) (q .exact (ascending-as range place xs (items (c .args .self .now)) host (c .regions-table .ensures) h)) (q .within) (c .index-table-i .result) (c .index-table-i .is)
-          ∙ ap (λ (ys : List (g .R .Denot)). holding (map (shown range place) ys) a) (c .regions-table .ensures) }
+          ∙ ap (λ (ys : List (g .R .Denot)). holding (map (shown range place) ys) a) (c .regions-table .ensures);
+    }
 
 pub returns-in-None : need.returns-in-None
 returns-in-None g c =
@@ -32,10 +33,11 @@ returns-in-None g c =
     let a = c .args .addr .0 in
     let xs = c .regions-table .result .now in
     let q = c .in-None .ensures tt in
-    record
-      { item = λ h.
+    record {
+      item = λ h.
           ap (entry xs) (q .exact (ascending-as range place xs (items (c .args .self .now)) host (c .regions-table .ensures) h))
-          ∙ ap (λ (ys : List (g .R .Denot)). entry ys (holder (map range ys) a)) (c .regions-table .ensures)
-      ; region = λ h.
+          ∙ ap (λ (ys : List (g .R .Denot)). entry ys (holder (map range ys) a)) (c .regions-table .ensures);
+      region = λ h.
           holding-none range place xs a (q .exact (ascending-as range place xs (items (c .args .self .now)) host (c .regions-table .ensures) h))
-          ∙ ap (λ (ys : List (g .R .Denot)). holding (map (shown range place) ys) a) (c .regions-table .ensures) }
+          ∙ ap (λ (ys : List (g .R .Denot)). holding (map (shown range place) ys) a) (c .regions-table .ensures);
+    }
