@@ -1,5 +1,5 @@
 -- A collection over a whole table has its regions, and is made where they pass their questions.
-use mathlib.Core.Path.{_≡_, refl, sym, _∙_, ap, subst}
+use mathlib.Core.Path.{_≡_, refl, sym, _∙_, ap, subst₂}
 use mathlib.Core.List.{List, map}
 use Prim.Native.Nat.{ℕ, _≤_}
 use native.Mathlib.Omega.{arith}
@@ -13,10 +13,12 @@ use lib.Dec.{eqb}
 use Rattle.std.specs.declared.option.Option.{Option}
 use Rattle.std.specs.declared.option.Option.the-variants.{Some, None}
 use Rattle.region.specs.Regions.{Region}
+use Rattle.region.specs.declared.slot.SlotRegion.{SlotRegion}
 use Rattle.table.specs.Questions.{table-fault}
 use Rattle.table.specs.declared.error.GuestRegionCollectionError.{GuestRegionCollectionError}
 use Rattle.table.specs.declared.error.GuestRegionCollectionError.the-variants.{NoMemoryRegion}
-use Rattle.collection.specs.Collections.{make-fault, edited-fault}
+use Rattle.collection.specs.Collections.{make-fault, edited-fault, items}
+use Rattle.collection.specs.declared.collection.GuestRegionCollection.{GuestRegionCollection}
 use Rattle.collection.proofs.Counted.{edited-some}
 
 -- the first entries of a table, all of them
@@ -37,3 +39,7 @@ not-refused host n rs e l h q =
     let z : edited-fault host n rs ≡ None = edited-some host n rs (omega arith) ∙ ap (table-fault host) (take-all n rs (omega arith)) ∙ h in
     let w : _≡_ {A = ℕ} 0 1 = cc in
     omega arith
+
+-- what is said of a collection over a whole table is said of the table
+pub over-whole : (D : ℕ → List SlotRegion → Type 0) (col : GuestRegionCollection SlotRegion) (host : ℕ) (xs : List SlotRegion) → items col ≡ take (length xs) xs → col .«host_len» ≡ host → D (col .«host_len») (items col) → D host xs
+over-whole D col host xs e h d = subst₂ D h (all-items (items col) xs xs (length xs) e refl refl) d

@@ -28,6 +28,13 @@ at-read f d xs i x h e = getD-map f xs i x d h ∙ ap f (sym e)
 pub range-read : {R : Type 0} (f : R → Range) (xs : List R) (i : ℕ) (x : R) → i < length xs → x ≡ getD xs i x → range-at (map f xs) i ≡ f x
 range-read f xs i x h e = at-read f (record { start = 0; len = 0 }) xs i x h e
 
+-- the start and the length that an element was asked for
+pub start-read : {R : Type 0} (f : R → Range) (xs : List R) (i : ℕ) (x : R) → i < length xs → x ≡ getD xs i x → (s : ℕ) → s ≡ f x .start → range-at (map f xs) i .start ≡ s
+start-read f xs i x h e s q = ap (λ (r : Range). r .start) (range-read f xs i x h e) ∙ sym q
+
+pub len-read : {R : Type 0} (f : R → Range) (xs : List R) (i : ℕ) (x : R) → i < length xs → x ≡ getD xs i x → (n : ℕ) → n ≡ f x .len → range-at (map f xs) i .len ≡ n
+len-read f xs i x h e n q = ap (λ (r : Range). r .len) (range-read f xs i x h e) ∙ sym q
+
 pub region-read : {R : Type 0} (f : R → Region) (xs : List R) (i : ℕ) (x : R) → i < length xs → x ≡ getD xs i x → region-at (map f xs) i ≡ f x
 region-read f xs i x h e = at-read f (record { start = 0; len = 0; place = None }) xs i x h e
 

@@ -1,13 +1,11 @@
 -- Each turn looks at the middle range: its start and its end tell which half is left.
-use mathlib.Core.Path.{_≡_, ap, sym, _∙_}
+use mathlib.Core.Path.{sym}
 use mathlib.Core.List.{map}
 use Prim.Native.Nat.{ℕ, _+_, _-_, _/_, _<_, _≤_}
 use native.Mathlib.Omega.{arith}
 use lib.ListN.{length}
 use Rattle.std.proofs.shelf.Lists.{length-map}
-use Rattle.region.specs.Ranges.{Range}
-use Rattle.region.specs.Grounds.{range-at}
-use Rattle.table.proofs.Tables.{range-read, above, below, found-at, found-none}
+use Rattle.table.proofs.Tables.{start-read, len-read, above, below, found-at, found-none}
 use Rattle.table.proofs.search.find_index.Needs as need
 
 pub loop-low-again-then-addr-start : need.loop-low-again-then-addr-start
@@ -16,8 +14,7 @@ loop-low-again-then-addr-start g c =
     let xs = map f (c .args .table .now) in
     let mid : ℕ = c .loop-low .low + (c .loop-low .high - c .loop-low .low) / 2 in
     let lt : mid < length (c .args .table .now) = omega arith in
-    let e = range-read f (c .args .table .now) mid _ lt (c .index-table-mid .is) in
-    let s : range-at xs mid .start ≡ c .start-addr-start .result .0 = ap (λ (r : Range). r .start) e ∙ sym (c .start-addr-start .ensures) in
+    let s = start-read f (c .args .table .now) mid (c .index-table-mid .result) lt (c .index-table-mid .is) (c .start-addr-start .result .0) (c .start-addr-start .ensures) in
     (omega arith, omega arith, λ q. (c .loop-low .inv .2 q .0, above xs (length (c .args .table .now)) q (c .args .addr .0) mid (omega arith)))
 
 pub returns-then-addr-start-2 : need.returns-then-addr-start-2
@@ -26,9 +23,8 @@ returns-then-addr-start-2 g c =
     let xs = map f (c .args .table .now) in
     let mid : ℕ = c .loop-low .low + (c .loop-low .high - c .loop-low .low) / 2 in
     let lt : mid < length (c .args .table .now) = omega arith in
-    let e = range-read f (c .args .table .now) mid _ lt (c .index-table-mid .is) in
-    let s : range-at xs mid .start ≡ c .start-addr-start .result .0 = ap (λ (r : Range). r .start) e ∙ sym (c .start-addr-start .ensures) in
-    let n : range-at xs mid .len ≡ c .len .result = ap (λ (r : Range). r .len) e ∙ sym (c .len .ensures) in
+    let s = start-read f (c .args .table .now) mid (c .index-table-mid .result) lt (c .index-table-mid .is) (c .start-addr-start .result .0) (c .start-addr-start .ensures) in
+    let n = len-read f (c .args .table .now) mid (c .index-table-mid .result) lt (c .index-table-mid .is) (c .len .result) (c .len .ensures) in
     let m = length-map (c .args .table .now) f in
     record { within = omega arith; exact = λ q. sym (found-at xs (rw m q) mid (c .args .addr .0) (omega arith) (omega arith) (omega arith)) }
 
@@ -38,9 +34,8 @@ loop-low-again g c =
     let xs = map f (c .args .table .now) in
     let mid : ℕ = c .loop-low .low + (c .loop-low .high - c .loop-low .low) / 2 in
     let lt : mid < length (c .args .table .now) = omega arith in
-    let e = range-read f (c .args .table .now) mid _ lt (c .index-table-mid .is) in
-    let s : range-at xs mid .start ≡ c .start-addr-start .result .0 = ap (λ (r : Range). r .start) e ∙ sym (c .start-addr-start .ensures) in
-    let n : range-at xs mid .len ≡ c .len .result = ap (λ (r : Range). r .len) e ∙ sym (c .len .ensures) in
+    let s = start-read f (c .args .table .now) mid (c .index-table-mid .result) lt (c .index-table-mid .is) (c .start-addr-start .result .0) (c .start-addr-start .ensures) in
+    let n = len-read f (c .args .table .now) mid (c .index-table-mid .result) lt (c .index-table-mid .is) (c .len .result) (c .len .ensures) in
     (omega arith, omega arith, λ q. (below xs (length (c .args .table .now)) q (c .args .addr .0) mid (omega arith) (omega arith) (omega arith), c .loop-low .inv .2 q .1))
 
 pub returns : need.returns
