@@ -8,7 +8,7 @@ ghost use Rattle.address.specs.Permitted.{bits, Allows};
 ghost use Rattle.refusal.specs.declared.Refusal.the-variants.{BadPermissions as Number14};
 use refusal::Refusal;
 
-// What may be done at an address. The numbers are the raw values.
+/// What may be done at an address. The numbers are the raw values.
 #[derive(Clone, Copy, PartialEq, Eq)]
 pub enum Permissions {
     No = 0,
@@ -17,7 +17,7 @@ pub enum Permissions {
     ReadWrite = 3,
 }
 
-// Refusal 14: the raw value is no permissions.
+/// Refusal 14: the raw value is no permissions.
 #[derive(Clone, Copy, PartialEq, Eq)]
 pub struct BadPermissions;
 
@@ -30,7 +30,7 @@ pub impl From<BadPermissions> for Refusal as RefusalFromPermissions {
 }
 
 impl Permissions {
-    // The permissions of a raw value, which is at most 3.
+    /// The permissions of a raw value, which is at most 3.
     pub fn from_repr(raw: u64) -> Result<Permissions, BadPermissions>
         ensures { λ r. ⌜ Cases r (λ p. bits p ≡ raw) (λ _. 3 < raw) ⌝ }
     {
@@ -43,14 +43,14 @@ impl Permissions {
         }
     }
 
-    // The raw value.
+    /// The raw value.
     pub fn repr(self) -> u8
         ensures { λ r. ⌜ r ≡ bits self ⌝ }
     {
         self as u8
     }
 
-    // What either of the two has.
+    /// What either of the two has.
     pub fn union(self, other: Permissions) -> Permissions
         ensures { λ r. ⌜ bits r ≡ bitOr (bits self) (bits other) ⌝ }
     {
@@ -62,7 +62,7 @@ impl Permissions {
         }
     }
 
-    // What both of the two have.
+    /// What both of the two have.
     pub fn intersection(self, other: Permissions) -> Permissions
         ensures { λ r. ⌜ bits r ≡ bitAnd (bits self) (bits other) ⌝ }
     {
@@ -74,14 +74,14 @@ impl Permissions {
         }
     }
 
-    // Whether these permissions, held, allow the access.
+    /// Whether these permissions, held, allow the access.
     pub fn allow(self, access: Permissions) -> bool
         ensures { λ r. ⌜ Decides r (Allows (bits self) (bits access)) ⌝ }
     {
         self.repr() & access.repr() == access.repr()
     }
 
-    // Whether these permissions include Write.
+    /// Whether these permissions include Write.
     pub fn has_write(self) -> bool
         ensures { λ r. ⌜ Decides r (Allows (bits self) 2) ⌝ }
     {

@@ -39,15 +39,15 @@ pub enum Answer {
     Error,
 }
 
-// A number that there may be none of, such as a place in the host.
+/// A number that there may be none of, such as a place in the host.
 #[derive(Clone, Copy, Drop)]
 struct Place(Option<u64>);
 
-// A refusal as it is written: its number, its name and its details.
+/// A refusal as it is written: its number, its name and its details.
 #[derive(Clone, Copy, Drop)]
 struct Reason(Refusal);
 
-// Pieces in a row, each after a blank.
+/// Pieces in a row, each after a blank.
 #[derive(Clone, Copy, Drop)]
 struct Row<'a>(&'a [Span]);
 

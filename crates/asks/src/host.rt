@@ -14,7 +14,7 @@ use pieces::piece::Piece;
 use std::alloc::AllocError;
 use std::alloc::Global;
 
-// A new host buffer: each byte tells its place.
+/// A new host buffer: each byte tells its place.
 pub fn new_host(heap: Global, len: u64) -> Result<Vec<u8>, AllocError>
     ensures { λ r. ⌜ made r (λ v. (vec-len v ≡ len) × ((p : ℕ) → p < len → getD (vec-items v) p 0 ≡ filler p)) ⌝ }
 {
@@ -25,7 +25,7 @@ pub fn new_host(heap: Global, len: u64) -> Result<Vec<u8>, AllocError>
     Ok(host)
 }
 
-// The FNV-1a hash of the host bytes.
+/// The FNV-1a hash of the host bytes.
 pub fn digest(host: &[u8]) -> u64
     ensures { λ r. ⌜ r ≡ fnv 0xcbf29ce484222325 (now (host .entry)) ⌝ }
 {
@@ -36,7 +36,7 @@ pub fn digest(host: &[u8]) -> u64
     hash
 }
 
-// The bytes of a piece.
+/// The bytes of a piece.
 pub fn bytes<M: GuestMemoryBackend>(
     heap: Global,
     memory: &M,

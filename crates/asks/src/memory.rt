@@ -19,7 +19,7 @@ use region::slot::SlotGuestMemoryRegion;
 use std::alloc::AllocError;
 use std::alloc::Global;
 
-// The region that holds an address.
+/// The region that holds an address.
 pub fn find<M: GuestMemoryBackend>(memory: &M, address: u64) -> Answer
     ensures { λ r. ⌜ (M·GuestMemoryBackend .lawful (now (memory .entry)) → r ≡ found (M·GuestMemoryBackend .ground (now (memory .entry))) address) ⌝ }
 {
@@ -35,7 +35,7 @@ pub fn find<M: GuestMemoryBackend>(memory: &M, address: u64) -> Answer
     }
 }
 
-// The pieces that a range draws, and what a further draw is refused for.
+/// The pieces that a range draws, and what a further draw is refused for.
 fn draw_all<M: GuestMemoryBackend>(
     heap: Global,
     memory: &M,
@@ -62,7 +62,7 @@ fn draw_all<M: GuestMemoryBackend>(
     }
 }
 
-// The pieces of a range, for an access by its raw value.
+/// The pieces of a range, for an access by its raw value.
 pub fn slices<M: GuestMemoryBackend>(
     heap: Global,
     memory: &M,

@@ -9,7 +9,7 @@ use address::address::GuestAddress;
 use address::address::GuestAddressAddress;
 use answers::Answer;
 
-// The raw number of an address, where there is one.
+/// The raw number of an address, where there is one.
 fn raw(addr: Option<GuestAddress>) -> Option<u64>
     ensures { λ r. ⌜ r ≡ each (λ a. a .0) addr ⌝ }
 {
@@ -19,6 +19,8 @@ fn raw(addr: Option<GuestAddress>) -> Option<u64>
     }
 }
 
+/// An address plus a number: the sum where it fits 64 bits, the sum modulo 2^64, and whether it passed
+/// the top.
 pub fn add(address: u64, by: u64) -> Answer
     ensures { λ r. ⌜ r ≡ Checked (sum address by) (wrapped-sum address by) (passes-top address by) ⌝ }
 {
@@ -27,6 +29,7 @@ pub fn add(address: u64, by: u64) -> Answer
     Answer::Checked(raw(addr.checked_add(by)), wrapped.raw_value(), over)
 }
 
+/// An address less a number, likewise.
 pub fn sub(address: u64, by: u64) -> Answer
     ensures { λ r. ⌜ r ≡ Checked (difference address by) (wrapped-difference address by) (passes-bottom address by) ⌝ }
 {
@@ -35,6 +38,7 @@ pub fn sub(address: u64, by: u64) -> Answer
     Answer::Checked(raw(addr.checked_sub(by)), wrapped.raw_value(), under)
 }
 
+/// How far an address lies above a base, if it does.
 pub fn offset(address: u64, base: u64) -> Answer
     ensures { λ r. ⌜ r ≡ number-or-none (difference address base) ⌝ }
 {
@@ -44,6 +48,7 @@ pub fn offset(address: u64, base: u64) -> Answer
     }
 }
 
+/// The bits that an address and a mask both have.
 pub fn mask(address: u64, mask: u64) -> Answer
     ensures { λ r. ⌜ r ≡ Number (bitAnd address mask) ⌝ }
 {

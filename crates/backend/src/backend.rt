@@ -17,8 +17,8 @@ use region::slot::SlotAddressRange;
 use region::slot::SlotGuestMemoryRegion;
 use region::slot::SlotRegion;
 
-// A backend means a host length and an ascending list of sound regions, no two sharing an address.
-// Its questions change nothing.
+/// A backend means a host length and an ascending list of sound regions, no two sharing an address.
+/// Its questions change nothing.
 pub trait GuestMemoryBackend {
     ghost ground: { Self → Ground };
 
@@ -27,15 +27,15 @@ pub trait GuestMemoryBackend {
 
     ghost keeps: { (b : Self) → lawful b → Keeps-meaning (ground b) };
 
-    // The length that the host buffer has to have.
+    /// The length that the host buffer has to have.
     fn host_len(&self) -> u64
         ensures { λ r. ⌜ r ≡ ground (now (self .entry)) .host ⌝ };
 
-    // The region that holds the address, or none.
+    /// The region that holds the address, or none.
     fn region_at(&self, addr: GuestAddress) -> Option<SlotRegion>
         ensures { λ r. ⌜ (lawful (now (self .entry)) → each (shown slot-range slot-place) r ≡ holding (ground (now (self .entry)) .regions) (addr .0)) ⌝ };
 
-    // The region that holds the address, and how far the address lies above its start.
+    /// The region that holds the address, and how far the address lies above its start.
     fn to_region_addr(&self, addr: GuestAddress) -> Option<(SlotRegion, MemoryRegionAddress)>
         ensures { λ r. ⌜ (lawful (now (self .entry)) → each (λ p. (shown slot-range slot-place (p .0), p .1 .0)) r ≡ located (ground (now (self .entry)) .regions) (addr .0)) ⌝ }
     {
@@ -44,8 +44,8 @@ pub trait GuestMemoryBackend {
         Some((region, MemoryRegionAddress(offset)))
     }
 
-    // The region that holds the address, and the place of the address in the host buffer, where the
-    // region has host memory.
+    /// The region that holds the address, and the place of the address in the host buffer, where the
+    /// region has host memory.
     fn resolve(&self, addr: GuestAddress) -> Option<(SlotRegion, Option<u64>)>
         ensures { λ r. ⌜ (lawful (now (self .entry)) → each (λ p. (shown slot-range slot-place (p .0), p .1)) r ≡ resolved (ground (now (self .entry)) .regions) (addr .0)) ⌝ }
     {
@@ -57,14 +57,14 @@ pub trait GuestMemoryBackend {
         Some((region, place))
     }
 
-    // Whether some region holds the address.
+    /// Whether some region holds the address.
     fn address_in_range(&self, addr: GuestAddress) -> bool
         ensures { λ r. ⌜ (lawful (now (self .entry)) → r ≡ isSome (holding (ground (now (self .entry)) .regions) (addr .0))) ⌝ }
     {
         self.region_at(addr).is_some()
     }
 
-    // The address itself where some region holds it.
+    /// The address itself where some region holds it.
     fn check_address(&self, addr: GuestAddress) -> Option<GuestAddress>
         ensures { λ r. ⌜ (lawful (now (self .entry)) → each (λ a. a .0) r ≡ present (ground (now (self .entry)) .regions) (addr .0)) ⌝ }
     {
@@ -75,7 +75,7 @@ pub trait GuestMemoryBackend {
         }
     }
 
-    // The address plus `offset` where some region holds that.
+    /// The address plus `offset` where some region holds that.
     fn checked_offset(&self, base: GuestAddress, offset: u64) -> Option<GuestAddress>
         ensures { λ r. ⌜ (lawful (now (self .entry)) → each (λ a. a .0) r ≡ present-plus (ground (now (self .entry)) .regions) (base .0) offset) ⌝ }
     {

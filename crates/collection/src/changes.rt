@@ -14,8 +14,8 @@ use table::edits::remove;
 use table::error::GuestRegionCollectionError;
 
 impl<'a, R: GuestMemoryRegion + Copy> GuestRegionCollection<'a, R> {
-    // Writes the regions with one more into `dest`, and answers their number. Refused, the first no:
-    // `dest` has too few entries, the region is not sound, it shares an address with another.
+    /// Writes the regions with one more into `dest`, and answers their number. Refused, the first no:
+    /// `dest` has too few entries, the region is not sound, it shares an address with another.
     pub fn insert_region(
         &self,
         region: R,
@@ -28,9 +28,9 @@ impl<'a, R: GuestMemoryRegion + Copy> GuestRegionCollection<'a, R> {
         insert(table, self.host_len, region, dest)
     }
 
-    // Writes the regions without the one of exactly this start and length into `dest`, and answers
-    // their number and the removed region. Refused, the first no: there is no such region, `dest`
-    // has too few entries.
+    /// Writes the regions without the one of exactly this start and length into `dest`, and answers
+    /// their number and the removed region. Refused, the first no: there is no such region, `dest`
+    /// has too few entries.
     pub fn remove_region(
         &self,
         start: GuestAddress,

@@ -14,7 +14,7 @@ use region::region::GuestMemoryRegion;
 use table::search::find_index;
 
 impl<'a, R: GuestMemoryRegion> GuestRegionCollection<'a, R> {
-    // The region that holds the address, or none.
+    /// The region that holds the address, or none.
     pub fn find_region(&self, addr: GuestAddress) -> Option<&'a R>
         ensures item { λ r. ⌜ (Lawful (R·AddressRange .range) (R·GuestMemoryRegion .place) (now (self .entry)) → each now r ≡ entry (items (now (self .entry))) (holder (map (R·AddressRange .range) (items (now (self .entry)))) (addr .0))) ⌝ }
         ensures region { λ r. ⌜ (Lawful (R·AddressRange .range) (R·GuestMemoryRegion .place) (now (self .entry)) → each (λ x. shown (R·AddressRange .range) (R·GuestMemoryRegion .place) (now x)) r ≡ holding (ground-of (R·AddressRange .range) (R·GuestMemoryRegion .place) (now (self .entry)) .regions) (addr .0)) ⌝ }

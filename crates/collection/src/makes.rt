@@ -14,7 +14,7 @@ use table::checks::table_error;
 use table::error::GuestRegionCollectionError;
 
 impl<'a, R: GuestMemoryRegion> GuestRegionCollection<'a, R> {
-    // The collection without a region.
+    /// The collection without a region.
     pub fn new(host_len: u64) -> Self
         ensures items { λ r. ⌜ (items r ≡ []) × (r .«host_len» ≡ «host_len») ⌝ }
         ensures lawful { λ r. ⌜ Lawful (R·AddressRange .range) (R·GuestMemoryRegion .place) r ⌝ }
@@ -26,8 +26,8 @@ impl<'a, R: GuestMemoryRegion> GuestRegionCollection<'a, R> {
         }
     }
 
-    // The collection of a whole table. Refused, the first no: the table is empty, a region is not
-    // sound, a region starts later than the next one, or does not end before it.
+    /// The collection of a whole table. Refused, the first no: the table is empty, a region is not
+    /// sound, a region starts later than the next one, or does not end before it.
     pub fn from_regions(table: &'a [R], host_len: u64) -> Result<Self, GuestRegionCollectionError>
         ensures answer { λ r. ⌜ Cases r (λ c. (make-fault «host_len» (map (shown (R·AddressRange .range) (R·GuestMemoryRegion .place)) (now (table .entry))) ≡ None) × (items c ≡ now (table .entry)) × (c .«host_len» ≡ «host_len»)) (λ e. make-fault «host_len» (map (shown (R·AddressRange .range) (R·GuestMemoryRegion .place)) (now (table .entry))) ≡ Some e) ⌝ }
         ensures lawful { λ r. ⌜ Cases r (λ c. Lawful (R·AddressRange .range) (R·GuestMemoryRegion .place) c) (λ _. Unit {0}) ⌝ }
@@ -45,8 +45,8 @@ impl<'a, R: GuestMemoryRegion> GuestRegionCollection<'a, R> {
         }
     }
 
-    // The collection that an insertion or a removal left in the first `count` entries of a table; it
-    // may be empty. Refused where the table has fewer entries, then as for a whole table.
+    /// The collection that an insertion or a removal left in the first `count` entries of a table; it
+    /// may be empty. Refused where the table has fewer entries, then as for a whole table.
     pub fn from_edited(
         table: &'a [R],
         count: usize,
@@ -68,14 +68,14 @@ impl<'a, R: GuestMemoryRegion> GuestRegionCollection<'a, R> {
         }
     }
 
-    // The host length that the collection was made for.
+    /// The host length that the collection was made for.
     pub fn host_len(&self) -> u64
         ensures { λ r. ⌜ r ≡ now (self .entry) .«host_len» ⌝ }
     {
         self.host_len
     }
 
-    // The regions, in ascending order.
+    /// The regions, in ascending order.
     pub fn regions(&self) -> &'a [R]
         ensures { λ r. ⌜ now r ≡ items (now (self .entry)) ⌝ }
     {
@@ -84,13 +84,14 @@ impl<'a, R: GuestMemoryRegion> GuestRegionCollection<'a, R> {
         &table[0..count]
     }
 
+    /// The number of regions.
     pub fn num_regions(&self) -> usize
         ensures { λ r. ⌜ r ≡ length (items (now (self .entry))) ⌝ }
     {
         self.regions().len()
     }
 
-    // The highest address of any region; 0 where there is none.
+    /// The highest address of any region; 0 where there is none.
     pub fn last_addr(&self) -> GuestAddress
         ensures { λ r. ⌜ (Lawful (R·AddressRange .range) (R·GuestMemoryRegion .place) (now (self .entry)) → r .0 ≡ highest (ground-of (R·AddressRange .range) (R·GuestMemoryRegion .place) (now (self .entry)) .regions)) ⌝ }
     {

@@ -12,7 +12,7 @@ use std::alloc::Global;
 use words::cut;
 use words::parse_entries;
 
-// The most bytes that a box may have, and that are written out at a time.
+/// The most bytes that a box may have, and that are written out at a time.
 const MOST: u64 = 0x100_0000;
 
 fn bare(name: &str) -> Option<Command>
@@ -128,7 +128,7 @@ fn insert_ram(
     }
 }
 
-// The command that the name and the words of `rest` write.
+/// The command that the name and the words of `rest` write.
 fn with_words(name: &str, rest: &str) -> Option<Command>
     requires { ⌜ (now name ≡ codes "frames" → ⊥) ⌝ }
     ensures { λ r. ⌜ Reads r (now (name .entry) ∷ words (now (rest .entry))) ⌝ }
@@ -151,7 +151,7 @@ fn with_words(name: &str, rest: &str) -> Option<Command>
     }
 }
 
-// The one command with any number of words: the base, and the entries if there are any.
+/// The one command with any number of words: the base, and the entries if there are any.
 fn with_entries(heap: Global, rest: &str) -> Result<Option<Command>, AllocError>
     ensures { λ r. ⌜ made r (λ o. Reads o (codes "frames" ∷ words (now (rest .entry)))) ⌝ }
 {
@@ -173,7 +173,7 @@ fn with_entries(heap: Global, rest: &str) -> Result<Option<Command>, AllocError>
     }
 }
 
-// The command that a text writes, if it writes one.
+/// The command that a text writes, if it writes one.
 pub fn read_command(heap: Global, text: &str) -> Result<Option<Command>, AllocError>
     ensures { λ r. ⌜ made r (λ o. Reads o (words (now (text .entry)))) ⌝ }
 {

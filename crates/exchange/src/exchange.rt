@@ -14,7 +14,7 @@ use std::alloc::AllocError;
 use std::alloc::Global;
 use survey::question::Question;
 
-// A RAM region by its numbers.
+/// A RAM region by its numbers.
 fn ram(start: u64, len: u64, place: u64) -> SlotRegion
     ensures { λ r. ⌜ r ≡ ram-slot start len place ⌝ }
 {
@@ -25,7 +25,7 @@ fn ram(start: u64, len: u64, place: u64) -> SlotRegion
     })
 }
 
-// A window by its numbers.
+/// A window by its numbers.
 fn window(start: u64, len: u64) -> SlotRegion
     ensures { λ r. ⌜ r ≡ window-slot start len ⌝ }
 {
@@ -35,7 +35,7 @@ fn window(start: u64, len: u64) -> SlotRegion
     }
 }
 
-// Adds a region to those to collect.
+/// Adds a region to those to collect.
 fn add(guest: &mut GuestBox, region: SlotRegion) -> Result<Answer, AllocError>
     ensures { λ r. ⌜ made r (λ x. Adds (now (guest .entry)) region x (now (guest .exit))) ⌝ }
 {
@@ -43,7 +43,7 @@ fn add(guest: &mut GuestBox, region: SlotRegion) -> Result<Answer, AllocError>
     Ok(Answer::Done)
 }
 
-// Performs a command that needs a box.
+/// Performs a command that needs a box.
 fn perform_in(guest: &mut GuestBox, heap: Global, command: Command) -> Result<Answer, AllocError>
     ensures { λ r. ⌜ made r (λ x. Performed (now (guest .entry)) command x (now (guest .exit))) ⌝ }
 {
@@ -74,20 +74,21 @@ fn perform_in(guest: &mut GuestBox, heap: Global, command: Command) -> Result<An
     }
 }
 
-// The box of a script, which has none before its first host bytes.
+/// The box of a script, which has none before its first host bytes.
 #[derive(Drop)]
 pub struct Exchange {
     inner: Option<GuestBox>,
 }
 
 impl Exchange {
+    /// An exchange without a box.
     pub fn new() -> Exchange
         ensures { λ r. ⌜ r .inner ≡ None ⌝ }
     {
         Exchange { inner: None }
     }
 
-    // Performs a command, and answers it.
+    /// Performs a command, and answers it.
     pub fn perform(&mut self, heap: Global, command: Command) -> Result<Answer, AllocError>
         ensures { λ r. ⌜ made r (λ x. Performs (now (self .entry) .inner) command x (now (self .exit) .inner)) ⌝ }
     {

@@ -9,7 +9,7 @@ use std::alloc::AllocError;
 use std::alloc::Global;
 
 impl Exchange {
-    // What a line, without its newline, is answered, if anything.
+    /// What a line, without its newline, is answered, if anything.
     pub fn answer(&mut self, heap: Global, line: &[u8]) -> Result<Option<Answer>, AllocError>
         ensures { λ r. ⌜ made r (λ o. Answers-line (now (line .entry)) (now (self .entry) .inner) o (now (self .exit) .inner)) ⌝ }
     {

@@ -18,10 +18,10 @@ use region::slot::RamRegion;
 use region::slot::SlotRegion;
 use table::error::GuestRegionCollectionError;
 
-// The bytes of a frame.
+/// The bytes of a frame.
 const FRAME: u64 = 4096;
 
-// Whether the base and the number of entries are those of frame memory.
+/// Whether the base and the number of entries are those of frame memory.
 fn is_well_shaped(base: GuestAddress, entries: &[u32]) -> bool
     ensures { λ r. ⌜ r ≡ well-shaped (base .0) (now (entries .entry)) ⌝ }
 {
@@ -32,7 +32,7 @@ fn is_well_shaped(base: GuestAddress, entries: &[u32]) -> bool
     base.0 <= u64::MAX - (FRAME * count as u64 - 1)
 }
 
-// The index of the first entry whose frame does not end within the host length.
+/// The index of the first entry whose frame does not end within the host length.
 fn first_outside_index(entries: &[u32], host_len: u64) -> Option<usize>
     ensures { λ r. ⌜ r ≡ first-outside «host_len» (now (entries .entry)) ⌝ }
 {
@@ -45,8 +45,8 @@ fn first_outside_index(entries: &[u32], host_len: u64) -> Option<usize>
 }
 
 impl<'a> FrameMemory<'a> {
-    // Frame memory over these entries. Refused with index 0 where the base, the number of entries or
-    // their end is not as it has to be, else with the first frame that ends past the host length.
+    /// Frame memory over these entries. Refused with index 0 where the base, the number of entries or
+    /// their end is not as it has to be, else with the first frame that ends past the host length.
     pub fn new(
         base: GuestAddress,
         entries: &'a [u32],
@@ -68,7 +68,7 @@ impl<'a> FrameMemory<'a> {
         }
     }
 
-    // The number of present frames.
+    /// The number of present frames.
     pub fn num_regions(&self) -> usize
         ensures { λ r. ⌜ r ≡ length (frames-ground (now (self .entry)) .regions) ⌝ }
     {
@@ -82,7 +82,7 @@ impl<'a> FrameMemory<'a> {
         count
     }
 
-    // The last address of the last present frame; 0 where none is present.
+    /// The last address of the last present frame; 0 where none is present.
     pub fn last_addr(&self) -> GuestAddress
         ensures { λ r. ⌜ (Lawful-frames (now (self .entry)) → r .0 ≡ highest (frames-ground (now (self .entry)) .regions)) ⌝ }
     {

@@ -1,8 +1,8 @@
 // Frame memory over entries that the caller holds.
 use address::address::GuestAddress;
 
-// Entry n covers 4,096 bytes from `base` + 4,096 n: 0 is absent, and v stands for the host place
-// 4,096 (v - 1).
+/// Entry n covers 4,096 bytes from `base` + 4,096 n: 0 is absent, and v stands for the host place
+/// 4,096 (v - 1).
 #[derive(Clone, Copy)]
 pub struct FrameMemory<'a> {
     pub(crate) base: GuestAddress,

@@ -25,7 +25,7 @@ use survey::surveyed::FrameSurveyed;
 use survey::surveyed::ask_memory;
 
 impl GuestBox {
-    // The answer of the memory, which is made anew from its parts; an error where there is none yet.
+    /// The answer of the memory, which is made anew from its parts; an error where there is none yet.
     pub fn ask(&self, heap: Global, question: Question) -> Result<Answer, AllocError>
         ensures { λ r. ⌜ made r (λ x. Answers-to (ground-held (vec-len (now (self .entry) .host)) (now (self .entry) .memory)) question x) ⌝ }
     {
@@ -50,7 +50,7 @@ impl GuestBox {
         }
     }
 
-    // The bytes of a piece of the host buffer.
+    /// The bytes of a piece of the host buffer.
     pub fn bytes(&self, heap: Global, place: u64, count: u64) -> Result<Answer, AllocError>
         ensures { λ r. ⌜ made r (λ x. Shown (piece-bytes (vec-len (now (self .entry) .host)) (vec-items (now (self .entry) .host)) (record { place = place; len = count })) x) ⌝ }
     {
@@ -60,7 +60,7 @@ impl GuestBox {
         asks::host::bytes(heap, &memory, self.host.as_slice(), place, count)
     }
 
-    // The hash of the whole host buffer.
+    /// The hash of the whole host buffer.
     pub fn digest(&self) -> Answer
         ensures { λ r. ⌜ r ≡ Number (fnv 0xcbf29ce484222325 (vec-items (now (self .entry) .host))) ⌝ }
     {

@@ -21,8 +21,8 @@ use table::error::GuestRegionCollectionError;
 use table::error::RefusalFromCollection;
 
 impl GuestBox {
-    // Inserts a region, the table for the new collection having `room` entries. An error where the
-    // memory is no collection.
+    /// Inserts a region, the table for the new collection having `room` entries. An error where the
+    /// memory is no collection.
     pub fn insert(
         &mut self,
         heap: Global,
@@ -51,7 +51,7 @@ impl GuestBox {
         }
     }
 
-    // Removes the region of exactly this start and length, likewise.
+    /// Removes the region of exactly this start and length, likewise.
     pub fn remove(
         &mut self,
         heap: Global,

@@ -27,7 +27,7 @@ use table::error::GuestRegionCollectionError;
 use table::error::RefusalFromCollection;
 
 impl GuestBox {
-    // A box of `len` host bytes, each of which tells its place, with nothing collected.
+    /// A box of `len` host bytes, each of which tells its place, with nothing collected.
     pub fn new(heap: Global, len: u64) -> Result<GuestBox, AllocError>
         ensures { λ r. ⌜ made r (λ b. (vec-len (b .host) ≡ len) × ((p : ℕ) → p < len → getD (vec-items (b .host)) p 0 ≡ filler p) × (vec-items (b .pending) ≡ []) × (held (b .memory) ≡ absent)) ⌝ }
     {
@@ -39,7 +39,7 @@ impl GuestBox {
         })
     }
 
-    // Adds a region to those that the next collection is made from.
+    /// Adds a region to those that the next collection is made from.
     pub fn add_region(&mut self, region: SlotRegion) -> Result<(), AllocError>
         ensures { λ r. ⌜ made r (λ _. (vec-items (now (self .exit) .host) ≡ vec-items (now (self .entry) .host)) × (vec-items (now (self .exit) .pending) ≡ vec-items (now (self .entry) .pending) ++ (region ∷ [])) × (held (now (self .exit) .memory) ≡ held (now (self .entry) .memory))) ⌝ }
     {
@@ -47,7 +47,7 @@ impl GuestBox {
         Ok(())
     }
 
-    // Makes the collection of the regions added; after it, refused or not, none is left to collect.
+    /// Makes the collection of the regions added; after it, refused or not, none is left to collect.
     pub fn collect(&mut self, heap: Global) -> Answer
         ensures answer { λ r. ⌜ r ≡ counted-or-refused (length (vec-items (now (self .entry) .pending))) (make-fault (vec-len (now (self .entry) .host)) (map (shown slot-range slot-place) (vec-items (now (self .entry) .pending)))) ⌝ }
         ensures state { λ r. ⌜ (vec-items (now (self .exit) .host) ≡ vec-items (now (self .entry) .host)) × (vec-items (now (self .exit) .pending) ≡ []) × (held (now (self .exit) .memory) ≡ held-if (make-fault (vec-len (now (self .entry) .host)) (map (shown slot-range slot-place) (vec-items (now (self .entry) .pending)))) (over (vec-items (now (self .entry) .pending))) (held (now (self .entry) .memory))) ⌝ }
@@ -63,7 +63,7 @@ impl GuestBox {
         }
     }
 
-    // Makes frame memory from its entries.
+    /// Makes frame memory from its entries.
     pub fn frame(&mut self, base: u64, entries: Vec<u32>) -> Answer
         ensures answer { λ r. ⌜ r ≡ counted-or-refused (length (frames base (vec-items entries))) (frames-fault (vec-len (now (self .entry) .host)) base (vec-items entries)) ⌝ }
         ensures state { λ r. ⌜ (vec-items (now (self .exit) .host) ≡ vec-items (now (self .entry) .host)) × (vec-items (now (self .exit) .pending) ≡ vec-items (now (self .entry) .pending)) × (held (now (self .exit) .memory) ≡ held-if (frames-fault (vec-len (now (self .entry) .host)) base (vec-items entries)) (framed base (vec-items entries)) (held (now (self .entry) .memory))) ⌝ }

@@ -11,7 +11,7 @@ ghost use Rattle.std.specs.Reads.{Numeral, value};
 ghost use Rattle.std.specs.Written.{Prints};
 use std::fmt;
 
-// The number that the digits write, with no sign.
+/// The number that the digits write, with no sign.
 fn unsigned(digits: &str, radix: u32) -> Option<u64>
     requires { ⌜ 2 ≤ radix ⌝ ∗ ⌜ radix ≤ 36 ⌝ }
     ensures { λ r. ⌜ Checked r (Numeral radix (now (digits .entry)) × (value radix (now (digits .entry)) < 2 ^ 64)) (value radix (now (digits .entry))) ⌝ }
@@ -43,11 +43,11 @@ pub struct Hex(pub u64);
 #[derive(Clone, Copy, Drop)]
 pub struct HexBytes<'a>(pub &'a [u8]);
 
-// The digits of a number alone.
+/// The digits of a number alone.
 #[derive(Clone, Copy, Drop)]
 struct Figures(u64);
 
-// Writes the figure of a digit.
+/// Writes the figure of a digit.
 fn put_figure<W: fmt::Write>(digit: u8, f: &mut fmt::Formatter<W>) -> fmt::Result
     requires { ⌜ digit < 16 ⌝ }
     ensures { λ r. ⌜ Prints took (now (f .entry)) r (figure digit ∷ []) (now (f .exit)) ⌝ }

@@ -5,8 +5,8 @@ use crate::error::GuestMemoryError;
 use crate::piece::Piece;
 use backend::backend::GuestMemoryBackend;
 
-// The part of the host buffer that a piece names. Refused, the first no: the buffer has not the length
-// that the memory states, the piece does not end within it.
+/// The part of the host buffer that a piece names. Refused, the first no: the buffer has not the length
+/// that the memory states, the piece does not end within it.
 pub fn bytes_of<'a, M: GuestMemoryBackend>(
     memory: &M,
     host: &'a [u8],

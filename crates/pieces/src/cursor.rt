@@ -19,15 +19,15 @@ use region::slot::SlotAddressRange;
 use region::slot::SlotGuestMemoryRegion;
 use region::slot::SlotRegion;
 
-// Whether `len` bytes at a distance from a place end within the host buffer.
+/// Whether `len` bytes at a distance from a place end within the host buffer.
 fn ends_within(place: u64, offset: u64, len: u64, host_len: u64) -> bool
     ensures { λ r. ⌜ Decides r (place + offset + len ≤ «host_len») ⌝ }
 {
     place <= host_len && offset <= host_len - place && len <= host_len - place - offset
 }
 
-// The piece of at most `count` bytes, at least one, from the address on. Where a backend does not keep
-// its meaning the comparisons refuse what would lie outside the region or the host buffer.
+/// The piece of at most `count` bytes, at least one, from the address on. Where a backend does not keep
+/// its meaning the comparisons refuse what would lie outside the region or the host buffer.
 fn piece_at<M: GuestMemoryBackend>(
     memory: &M,
     addr: GuestAddress,
@@ -60,15 +60,15 @@ fn piece_at<M: GuestMemoryBackend>(
 }
 
 impl PhysicalCursor {
-    // A cursor over `count` bytes from the address on.
+    /// A cursor over `count` bytes from the address on.
     pub fn new(addr: GuestAddress, count: u64) -> Self
         ensures { λ r. ⌜ (r .addr ≡ addr) × (r .count ≡ count) ⌝ }
     {
         PhysicalCursor { addr, count }
     }
 
-    // The longest piece from the cursor that stays in the range and in one region; nothing after the
-    // end. A refusal ends the cursor.
+    /// The longest piece from the cursor that stays in the range and in one region; nothing after the
+    /// end. A refusal ends the cursor.
     pub fn draw<M: GuestMemoryBackend>(
         &mut self,
         memory: &M,

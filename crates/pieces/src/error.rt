@@ -8,15 +8,15 @@ use refusal::Refusal;
 
 #[derive(Clone, Copy, PartialEq, Eq)]
 pub enum GuestMemoryError {
-    // The host buffer has not the stated length.
+    /// The host buffer has not the stated length.
     BadHost,
-    // No region holds this address.
+    /// No region holds this address.
     InvalidGuestAddress(GuestAddress),
-    // A step goes past 2^64.
+    /// A step goes past 2^64.
     GuestAddressOverflow,
-    // The region has no host memory.
+    /// The region has no host memory.
     HostAddressNotAvailable,
-    // The piece does not end within the host buffer.
+    /// The piece does not end within the host buffer.
     InvalidBackendAddress,
 }
 

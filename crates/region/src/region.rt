@@ -12,7 +12,7 @@ use address::address::GuestAddressAddress;
 use address::address::MemoryRegionAddress;
 use address::address::MemoryRegionAddressAddress;
 
-// A range of guest addresses: a start and a length, answered alike each time.
+/// A range of guest addresses: a start and a length, answered alike each time.
 pub trait AddressRange {
     ghost range: { Self → Range };
 
@@ -22,7 +22,7 @@ pub trait AddressRange {
     fn len(&self) -> u64
         ensures { λ r. ⌜ r ≡ range (now (self .entry)) .len ⌝ };
 
-    // The last address of the range, 2^64 - 1 at most; the start where the range is empty.
+    /// The last address of the range, 2^64 - 1 at most; the start where the range is empty.
     fn last_addr(&self) -> GuestAddress
         ensures { λ r. ⌜ r .0 ≡ last-address (range (now (self .entry))) ⌝ }
     {
@@ -30,14 +30,14 @@ pub trait AddressRange {
         GuestAddress(start.0.saturating_add(self.len().saturating_sub(1)))
     }
 
-    // Whether an offset lies within the range.
+    /// Whether an offset lies within the range.
     fn address_in_range(&self, addr: MemoryRegionAddress) -> bool
         ensures { λ r. ⌜ r ≡ within (range (now (self .entry))) (addr .0) ⌝ }
     {
         addr.0 < self.len()
     }
 
-    // The offset itself where it lies within the range.
+    /// The offset itself where it lies within the range.
     fn check_address(&self, addr: MemoryRegionAddress) -> Option<MemoryRegionAddress>
         ensures { λ r. ⌜ each (λ a. a .0) r ≡ offset-within (range (now (self .entry))) (addr .0) ⌝ }
     {
@@ -48,14 +48,14 @@ pub trait AddressRange {
         }
     }
 
-    // The offset plus `offset`, where that lies within the range.
+    /// The offset plus `offset`, where that lies within the range.
     fn checked_offset(&self, base: MemoryRegionAddress, offset: u64) -> Option<MemoryRegionAddress>
         ensures { λ r. ⌜ each (λ a. a .0) r ≡ offset-plus (range (now (self .entry))) (base .0) offset ⌝ }
     {
         self.check_address(base.checked_add(offset)?)
     }
 
-    // How far an address lies above the start, where the range holds it.
+    /// How far an address lies above the start, where the range holds it.
     fn to_region_addr(&self, addr: GuestAddress) -> Option<MemoryRegionAddress>
         ensures { λ r. ⌜ each (λ a. a .0) r ≡ offset-of (range (now (self .entry))) (addr .0) ⌝ }
     {
@@ -64,7 +64,7 @@ pub trait AddressRange {
     }
 }
 
-// A region of guest memory: a range, and the place of its bytes in the host buffer, or none.
+/// A region of guest memory: a range, and the place of its bytes in the host buffer, or none.
 pub trait GuestMemoryRegion: AddressRange {
     ghost place: { Self → Option ℕ };
 
@@ -72,7 +72,7 @@ pub trait GuestMemoryRegion: AddressRange {
         ensures { λ r. ⌜ r ≡ place (now (self .entry)) ⌝ };
 }
 
-// Whether a region is sound for a host buffer of `host_len` bytes.
+/// Whether a region is sound for a host buffer of `host_len` bytes.
 pub fn is_sound<R: GuestMemoryRegion>(region: &R, host_len: u64) -> bool
     ensures { λ r. ⌜ r ≡ sound «host_len» (shown (R·AddressRange .range) (R·GuestMemoryRegion .place) (now (region .entry))) ⌝ }
 {

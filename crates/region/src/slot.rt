@@ -7,7 +7,7 @@ use crate::region::AddressRange;
 use crate::region::GuestMemoryRegion;
 use address::address::GuestAddress;
 
-// Guest RAM: it always has a place in the host buffer.
+/// Guest RAM: it always has a place in the host buffer.
 #[derive(Clone, Copy)]
 pub struct RamRegion {
     pub start: GuestAddress,
@@ -35,7 +35,7 @@ pub impl GuestMemoryRegion for RamRegion as RamGuestMemoryRegion {
     }
 }
 
-// RAM, or a window: addresses without host memory.
+/// RAM, or a window: addresses without host memory.
 #[derive(Clone, Copy)]
 pub enum SlotRegion {
     Ram(RamRegion),
@@ -71,7 +71,7 @@ pub impl GuestMemoryRegion for SlotRegion as SlotGuestMemoryRegion {
     }
 }
 
-// The slot that means what a region of any kind means.
+/// The slot that means what a region of any kind means.
 pub fn slot_of<R: GuestMemoryRegion>(region: &R) -> SlotRegion
     ensures { λ r. ⌜ shown slot-range slot-place r ≡ shown (R·AddressRange .range) (R·GuestMemoryRegion .place) (now (region .entry)) ⌝ }
 {

@@ -19,7 +19,7 @@ use std::alloc::AllocError;
 use std::alloc::Global;
 use table::error::GuestRegionCollectionError;
 
-// A table for the new regions: of the room that is offered it has what can be of use.
+/// A table for the new regions: of the room that is offered it has what can be of use.
 fn table_of(heap: Global, room: u64, most: usize) -> Result<Vec<SlotRegion>, AllocError>
     ensures { λ r. ⌜ made r (λ v. vec-len v ≡ min room most) ⌝ }
 {
@@ -30,7 +30,7 @@ fn table_of(heap: Global, room: u64, most: usize) -> Result<Vec<SlotRegion>, All
     Vec::from_elem(heap, blank, room.min(most as u64) as usize)
 }
 
-// The regions with one more, the table for them having `room` entries.
+/// The regions with one more, the table for them having `room` entries.
 pub fn with_region(
     heap: Global,
     table: &[SlotRegion],
@@ -54,7 +54,7 @@ pub fn with_region(
     }
 }
 
-// The regions without the one of exactly this start and length, and that one.
+/// The regions without the one of exactly this start and length, and that one.
 pub fn without_region(
     heap: Global,
     table: &[SlotRegion],

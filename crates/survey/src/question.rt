@@ -2,12 +2,12 @@
 
 #[derive(Clone, Copy)]
 pub enum Question {
-    // How many regions?
+    /// How many regions?
     Count,
-    // Which region holds the address?
+    /// Which region holds the address?
     Find(u64),
-    // What is the highest address?
+    /// What is the highest address?
     Last,
-    // Which pieces do so many bytes from an address draw, for an access by its raw value?
+    /// Which pieces do so many bytes from an address draw, for an access by its raw value?
     Slices(u64, u64, u64),
 }

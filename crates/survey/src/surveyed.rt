@@ -19,7 +19,7 @@ use region::region::GuestMemoryRegion;
 use std::alloc::AllocError;
 use std::alloc::Global;
 
-// A backend that also tells how many regions it has and where they end.
+/// A backend that also tells how many regions it has and where they end.
 pub trait Surveyed: GuestMemoryBackend {
     fn count(&self) -> usize
         ensures { λ r. ⌜ r ≡ length (Self·GuestMemoryBackend .ground (now (self .entry)) .regions) ⌝ };
@@ -48,7 +48,7 @@ pub impl<'a> Surveyed for FrameMemory<'a> as FrameSurveyed {
     }
 }
 
-// The answer of a memory of any kind.
+/// The answer of a memory of any kind.
 pub fn ask_memory<M: Surveyed>(
     heap: Global,
     memory: &M,

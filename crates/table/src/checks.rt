@@ -8,7 +8,7 @@ use region::region::AddressRange;
 use region::region::GuestMemoryRegion;
 use region::region::is_sound;
 
-// The index of the first region that is not sound for a host buffer of `host_len` bytes.
+/// The index of the first region that is not sound for a host buffer of `host_len` bytes.
 pub fn first_unsound_index<R: GuestMemoryRegion>(table: &[R], host_len: u64) -> Option<usize>
     ensures { λ r. ⌜ r ≡ first-unsound «host_len» (map (shown (R·AddressRange .range) (R·GuestMemoryRegion .place)) (now (table .entry))) ⌝ }
 {
@@ -20,7 +20,7 @@ pub fn first_unsound_index<R: GuestMemoryRegion>(table: &[R], host_len: u64) -> 
     None
 }
 
-// What a pair of neighbours is refused for.
+/// What a pair of neighbours is refused for.
 fn pair_error<R: AddressRange>(left: &R, right: &R) -> Option<GuestRegionCollectionError>
     ensures { λ r. ⌜ r ≡ pair-fault (R·AddressRange .range (now (left .entry))) (R·AddressRange .range (now (right .entry))) ⌝ }
 {
@@ -35,7 +35,7 @@ fn pair_error<R: AddressRange>(left: &R, right: &R) -> Option<GuestRegionCollect
     None
 }
 
-// What the first refused pair of neighbours, from the left, is refused for.
+/// What the first refused pair of neighbours, from the left, is refused for.
 pub fn first_bad_pair<R: AddressRange>(table: &[R]) -> Option<GuestRegionCollectionError>
     ensures { λ r. ⌜ r ≡ neighbours (map (R·AddressRange .range) (now (table .entry))) ⌝ }
 {
@@ -47,8 +47,8 @@ pub fn first_bad_pair<R: AddressRange>(table: &[R]) -> Option<GuestRegionCollect
     None
 }
 
-// What the regions of a table are refused for, if anything: the first that is not sound, then the
-// first bad pair.
+/// What the regions of a table are refused for, if anything: the first that is not sound, then the
+/// first bad pair.
 pub fn table_error<R: GuestMemoryRegion>(
     table: &[R],
     host_len: u64,

@@ -18,7 +18,7 @@ use region::region::AddressRange;
 use region::region::GuestMemoryRegion;
 use region::region::is_sound;
 
-// Whether the left range ends before the right one starts.
+/// Whether the left range ends before the right one starts.
 fn ends_before<R: AddressRange>(left: &R, right: &R) -> bool
     ensures { λ r. ⌜ Decides r (Apart (R·AddressRange .range (now (left .entry))) (R·AddressRange .range (now (right .entry)))) ⌝ }
 {
@@ -27,7 +27,7 @@ fn ends_before<R: AddressRange>(left: &R, right: &R) -> bool
     start <= next && left.len() <= next - start
 }
 
-// The index at which a range fits between those of an ascending table, where it is clear of them.
+/// The index at which a range fits between those of an ascending table, where it is clear of them.
 fn free_place<R: AddressRange>(table: &[R], new: &R) -> Option<usize>
     ensures within { λ r. ⌜ Cases r (Unit {0}) (λ i. i ≤ length (now (table .entry))) ⌝ }
     ensures exact { λ r. ⌜ (Ascending (map (R·AddressRange .range) (now (table .entry))) (length (now (table .entry))) → 0 < R·AddressRange .range (now (new .entry)) .len → Fitted (map (R·AddressRange .range) (now (table .entry))) (R·AddressRange .range (now (new .entry))) r) ⌝ }
@@ -43,7 +43,7 @@ fn free_place<R: AddressRange>(table: &[R], new: &R) -> Option<usize>
     Some(table.len())
 }
 
-// Writes the table with `new` at index `i` into `dest`.
+/// Writes the table with `new` at index `i` into `dest`.
 fn insert_into<R: Copy>(table: &[R], i: usize, new: R, dest: &mut [R])
     requires place { ⌜ i ≤ length (now table) ⌝ }
     requires room { ⌜ length (now table) < length (now dest) ⌝ }
@@ -55,7 +55,7 @@ fn insert_into<R: Copy>(table: &[R], i: usize, new: R, dest: &mut [R])
     dest[i + 1..count + 1].copy_from_slice(&table[i..count]);
 }
 
-// Writes the table without its entry at index `i` into `dest`.
+/// Writes the table without its entry at index `i` into `dest`.
 fn remove_into<R: Copy>(table: &[R], i: usize, dest: &mut [R])
     requires place { ⌜ i < length (now table) ⌝ }
     requires room { ⌜ length (now table) ≤ length (now dest) + 1 ⌝ }
@@ -66,7 +66,7 @@ fn remove_into<R: Copy>(table: &[R], i: usize, dest: &mut [R])
     dest[i..count - 1].copy_from_slice(&table[i + 1..count]);
 }
 
-// Writes the regions of a table with one more into `dest`, and answers their number.
+/// Writes the regions of a table with one more into `dest`, and answers their number.
 pub fn insert<R: GuestMemoryRegion + Copy>(
     table: &[R],
     host_len: u64,
@@ -91,14 +91,14 @@ pub fn insert<R: GuestMemoryRegion + Copy>(
     }
 }
 
-// Whether a range has exactly this start and length.
+/// Whether a range has exactly this start and length.
 fn is_exactly<R: AddressRange>(range: &R, start: GuestAddress, len: u64) -> bool
     ensures { λ r. ⌜ r ≡ exactly (start .0) len (R·AddressRange .range (now (range .entry))) ⌝ }
 {
     range.start_addr().0 == start.0 && range.len() == len
 }
 
-// The index of the region of exactly this start and length: if there is one, it holds the start.
+/// The index of the region of exactly this start and length: if there is one, it holds the start.
 fn index_of<R: GuestMemoryRegion>(table: &[R], start: GuestAddress, len: u64) -> Option<usize>
     ensures within { λ r. ⌜ Cases r (Unit {0}) (λ i. i < length (now (table .entry))) ⌝ }
     ensures exact { λ r. ⌜ ((host : ℕ) → Keeps-meaning (record { host = host; regions = map (shown (R·AddressRange .range) (R·GuestMemoryRegion .place)) (now (table .entry)) }) → r ≡ exact-index (map (R·AddressRange .range) (now (table .entry))) (start .0) len) ⌝ }
@@ -115,8 +115,8 @@ fn index_of<R: GuestMemoryRegion>(table: &[R], start: GuestAddress, len: u64) ->
     }
 }
 
-// Writes the regions of a table without the one of exactly this start and length into `dest`, and
-// answers their number and the removed region.
+/// Writes the regions of a table without the one of exactly this start and length into `dest`, and
+/// answers their number and the removed region.
 pub fn remove<R: GuestMemoryRegion + Copy>(
     table: &[R],
     start: GuestAddress,

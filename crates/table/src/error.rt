@@ -5,15 +5,15 @@ use refusal::Refusal;
 
 #[derive(Clone, Copy, PartialEq, Eq)]
 pub enum GuestRegionCollectionError {
-    // There is no region, or none with this start and length.
+    /// There is no region, or none with this start and length.
     NoMemoryRegion,
-    // A region starts later than its right neighbour.
+    /// A region starts later than its right neighbour.
     UnsortedMemoryRegions,
-    // Two regions share an address.
+    /// Two regions share an address.
     MemoryRegionOverlap,
-    // The region at this index is not sound.
+    /// The region at this index is not sound.
     BadRegion(usize),
-    // The destination table has too few entries.
+    /// The destination table has too few entries.
     NoRoom,
 }
 

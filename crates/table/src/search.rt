@@ -9,7 +9,7 @@ ghost use Rattle.table.specs.Questions.{holder};
 use address::address::GuestAddress;
 use region::region::AddressRange;
 
-// The index of the range that holds the address, by halving a table whose ranges ascend.
+/// The index of the range that holds the address, by halving a table whose ranges ascend.
 pub fn find_index<R: AddressRange>(table: &[R], addr: GuestAddress) -> Option<usize>
     ensures within { λ r. ⌜ Cases r (Unit {0}) (λ i. i < length (now (table .entry))) ⌝ }
     ensures exact { λ r. ⌜ (Ascending (map (R·AddressRange .range) (now (table .entry))) (length (now (table .entry))) → r ≡ holder (map (R·AddressRange .range) (now (table .entry))) (addr .0)) ⌝ }

@@ -41,7 +41,7 @@ pub fn is_idle(text: &str) -> bool
     is_blank(text.as_bytes()) || text.starts_with('#')
 }
 
-// A number of 32 bits.
+/// A number of 32 bits.
 fn parse_entry(word: &str) -> Option<u32>
     ensures { λ r. ⌜ Checked r (IsNumber (now (word .entry)) × (number (now (word .entry)) ≤ 0xffff_ffff)) (number (now (word .entry))) ⌝ }
 {
