@@ -1,5 +1,5 @@
 // Replays the stored sample: each line of data/script is performed, and its answer compared with what
-// the original Rust answered, line by line in data/answers.
+// the oracle answered, line by line in data/answers.
 use answers::AnswerDisplay;
 use exchange::exchange::Exchange;
 use std::fs;
@@ -31,6 +31,6 @@ fn main(rt: LibcRuntime) -> io::Result<()> {
     let left = expected.count();
     println!(
         rt,
-        "{same} answers as the original's, {other} others, {left} missing"
+        "{same} answers as the oracle's, {other} others, {left} missing"
     )
 }
