@@ -1,5 +1,5 @@
 -- What permissions are and allow, cited by the contracts of src/permissions.rt. Assumes nothing.
-use Rattle.std.specs.Prelude.{ℕ, Bool, ◌==◌, bit_and}
+use Rattle.std.specs.Prelude.{◌≡◌, ℕ, bit_and}
 use Rattle.address.specs.declared.permissions.Permissions.{Permissions}
 use Rattle.address.specs.declared.permissions.Permissions.TheVariants.{No, Read, Write, ReadWrite}
 
@@ -11,5 +11,5 @@ bits Write = 2
 bits ReadWrite = 3
 
 -- held permissions allow an access when they have each of its bits, so No is always allowed
-abbrev pub allows : ℕ → ℕ → Bool
-allows held access = bit_and held access == access
+abbrev pub Allows : ℕ → ℕ → Type 0
+Allows held access = bit_and held access ≡ access

@@ -1,6 +1,6 @@
 // Permissions of an access, and of what is held against it.
-ghost use Rattle.std.specs.Prelude.{◌≡◌, ◌<◌, MatchResult, bit_and, bit_or};
-ghost use Rattle.address.specs.Permitted.{bits, allows};
+ghost use Rattle.std.specs.Prelude.{◌≡◌, ◌<◌, Decides, MatchResult, bit_and, bit_or};
+ghost use Rattle.address.specs.Permitted.{bits, Allows};
 ghost use Rattle.refusal.specs.declared.Refusal.TheVariants.{BadPermissions as Number14};
 
 use refusal::Refusal;
@@ -73,14 +73,14 @@ impl Permissions {
 
     /// Whether these permissions, held, allow the access.
     pub fn allow(self, access: Permissions) -> bool
-        ensures { result ≡ allows (bits self) (bits access) }
+        ensures { Decides result (Allows (bits self) (bits access)) }
     {
         self.repr() & access.repr() == access.repr()
     }
 
     /// Whether these permissions include Write.
     pub fn has_write(self) -> bool
-        ensures { result ≡ allows (bits self) 2 }
+        ensures { Decides result (Allows (bits self) 2) }
     {
         self.allow(Permissions::Write)
     }

@@ -1,9 +1,8 @@
 -- The refusal that each error of guest memory is: its number and values are those of the refusal. Assumes nothing.
 use Rattle.refusal.specs.declared.Refusal.{Refusal}
 use Rattle.refusal.specs.declared.Refusal.TheVariants as refused
-use Rattle.iommu.specs.Refused.{iommu_refusal}
 use Rattle.pieces.specs.declared.error.GuestMemoryError.{GuestMemoryError}
-use Rattle.pieces.specs.declared.error.GuestMemoryError.TheVariants.{BadHost, InvalidGuestAddress, GuestAddressOverflow, HostAddressNotAvailable, InvalidBackendAddress, PartialBuffer, IommuError}
+use Rattle.pieces.specs.declared.error.GuestMemoryError.TheVariants.{BadHost, InvalidGuestAddress, GuestAddressOverflow, HostAddressNotAvailable, InvalidBackendAddress}
 
 abbrev pub memory_refusal : GuestMemoryError → Refusal
 memory_refusal BadHost = refused.BadHost
@@ -11,5 +10,3 @@ memory_refusal (InvalidGuestAddress a) = refused.InvalidGuestAddress a.0
 memory_refusal GuestAddressOverflow = refused.GuestAddressOverflow
 memory_refusal HostAddressNotAvailable = refused.HostAddressNotAvailable
 memory_refusal InvalidBackendAddress = refused.InvalidBackendAddress
-memory_refusal (PartialBuffer expected completed) = refused.PartialBuffer expected completed
-memory_refusal (IommuError e) = iommu_refusal e

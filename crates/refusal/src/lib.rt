@@ -11,31 +11,13 @@ pub enum Refusal {
     /// The index of the region at fault.
     BadRegion(u64),
     NoRoom,
-    BadRange,
     BadHost,
     /// The target address that no region holds.
     InvalidGuestAddress(u64),
     GuestAddressOverflow,
     HostAddressNotAvailable,
     InvalidBackendAddress,
-    /// How many bytes were to move, and how many moved.
-    PartialBuffer {
-        expected: u64,
-        completed: u64,
-    },
-    /// The range asked, the number of the cause, and the lowest address at fault.
-    CannotResolve {
-        iova: u64,
-        length: u64,
-        cause: u8,
-        at: u64,
-    },
     BadPermissions,
-    /// How many ranges are missed, and how many forbidden.
-    IotlbFails {
-        missed: u64,
-        forbidden: u64,
-    },
 }
 
 impl Refusal {
@@ -49,16 +31,12 @@ impl Refusal {
             Refusal::MemoryRegionOverlap => 3,
             Refusal::BadRegion(_) => 4,
             Refusal::NoRoom => 5,
-            Refusal::BadRange => 6,
             Refusal::BadHost => 7,
             Refusal::InvalidGuestAddress(_) => 8,
             Refusal::GuestAddressOverflow => 9,
             Refusal::HostAddressNotAvailable => 10,
             Refusal::InvalidBackendAddress => 11,
-            Refusal::PartialBuffer { .. } => 12,
-            Refusal::CannotResolve { .. } => 13,
             Refusal::BadPermissions => 14,
-            Refusal::IotlbFails { .. } => 15,
         }
     }
 
@@ -72,16 +50,12 @@ impl Refusal {
             Refusal::MemoryRegionOverlap => "MemoryRegionOverlap",
             Refusal::BadRegion(_) => "BadRegion",
             Refusal::NoRoom => "NoRoom",
-            Refusal::BadRange => "BadRange",
             Refusal::BadHost => "BadHost",
             Refusal::InvalidGuestAddress(_) => "InvalidGuestAddress",
             Refusal::GuestAddressOverflow => "GuestAddressOverflow",
             Refusal::HostAddressNotAvailable => "HostAddressNotAvailable",
             Refusal::InvalidBackendAddress => "InvalidBackendAddress",
-            Refusal::PartialBuffer { .. } => "PartialBuffer",
-            Refusal::CannotResolve { .. } => "CannotResolve",
             Refusal::BadPermissions => "BadPermissions",
-            Refusal::IotlbFails { .. } => "IotlbFails",
         }
     }
 }

@@ -22,9 +22,9 @@ loop-entry-preserved c =
     let more = present_more vs i c.loop-entry-test.true in
     elim c.if-entry-ne0.branch [
       | then-entry-ne0 w ↦
-          let z = ap (λ (b : Bool). cond {A = ℕ} b 0 1) (ne_eqb (get_or vs i 0) 0 w.if-entry-ne0.true) in omega (arith, w.count_is)
+          let z = ap (λ (b : Bool). cond {A = ℕ} b 0 1) (ne_eqb (get_or vs i 0) 0 w.if-entry-ne0.true) in omega (arith, w.count-is)
       | else-entry-ne0 w ↦
-          let z = ap (λ (b : Bool). cond {A = ℕ} b 0 1) (eq-eqb (get_or vs i 0) 0 w.if-entry-ne0.false) in omega (arith, w.count_is)
+          let z = ap (λ (b : Bool). cond {A = ℕ} b 0 1) (eq-eqb (get_or vs i 0) 0 w.if-entry-ne0.false) in omega (arith, w.count-is)
     ]
 
 pub returns : goal.returns
