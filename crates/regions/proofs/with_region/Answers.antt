@@ -13,28 +13,28 @@ pub returns-in-Err : goal.returns-in-Err
 returns-in-Err c h =
     let xs = c.args.table.now in
     let rs = map (shown slot_range slot_place) xs in
-    absurd (not_refused c.args.host-len (length xs) rs c.in-Err.error (sym (length-map xs (shown slot_range slot_place))) h c.in-Err.ensures.answer)
+    absurd (not_refused c.args.host_len (length xs) rs c.in-Err.error (sym (length-map xs (shown slot_range slot_place))) h c.in-Err.ensures.answer)
 
-pub returns-in-Ok-insert-region : goal.returns-in-Ok-insert-region
-returns-in-Ok-insert-region c h =
+pub returns-in-Ok-insert_region : goal.returns-in-Ok-insert_region
+returns-in-Ok-insert_region c h =
     let xs = c.args.table.now in
     let col = c.in-Ok.collection in
     let made = c.in-Ok.ensures in
-    let before : List SlotRegion = c.as-mut-slice.result.now in
-    let after : List SlotRegion = c.insert-region.new.dest in
-    let n : length before ≡ min c.args.room (length xs + 1) = c.as-mut-slice.ensures.len ∙ c.in-ok-dest.ensures ∙ omega (arith, c.saturating-add.ensures) in
-    let q = over_whole (λ (host : ℕ) (ys : List SlotRegion). Inserts slot_range slot_place host ys c.args.region before after (Ok c.in-Ok-insert-region.count)) col c.args.host-len xs made.answer.1 made.answer.2 (c.in-Ok-insert-region.ensures.exact made.lawful) in
-    let k : length after ≡ vec_len c.in-ok-dest.dest = c.insert-region.auto.dest ∙ c.as-mut-slice.ensures.len in
-    insertion_made c.args.host-len c.args.room xs c.args.region before after c.in-Ok-insert-region.count c.truncate.new.self n q
-    (c.truncate.ensures.items ∙ cut_off c.in-Ok-insert-region.count (vec_len c.in-ok-dest.dest) after (drop (length after) c.in-ok-dest.dest.items) k)
+    let before : List SlotRegion = c.as_mut_slice.result.now in
+    let after : List SlotRegion = c.insert_region.new.dest in
+    let n : length before ≡ min c.args.room (length xs + 1) = c.as_mut_slice.ensures.len ∙ c.in_ok-dest.ensures ∙ omega (arith, c.saturating_add.ensures) in
+    let q = over_whole (λ (host : ℕ) (ys : List SlotRegion). Inserts slot_range slot_place host ys c.args.region before after (Ok c.in-Ok-insert_region.count)) col c.args.host_len xs made.answer.1 made.answer.2 (c.in-Ok-insert_region.ensures.exact made.lawful) in
+    let k : length after ≡ vec_len c.in_ok-dest.dest = c.insert_region.auto.dest ∙ c.as_mut_slice.ensures.len in
+    insertion_made c.args.host_len c.args.room xs c.args.region before after c.in-Ok-insert_region.count c.truncate.new.self n q
+    (c.truncate.ensures.items ∙ cut_off c.in-Ok-insert_region.count (vec_len c.in_ok-dest.dest) after (drop (length after) c.in_ok-dest.dest.items) k)
 
-pub returns-in-Err-insert-region : goal.returns-in-Err-insert-region
-returns-in-Err-insert-region c h =
+pub returns-in-Err-insert_region : goal.returns-in-Err-insert_region
+returns-in-Err-insert_region c h =
     let xs = c.args.table.now in
     let col = c.in-Ok.collection in
     let made = c.in-Ok.ensures in
-    let before : List SlotRegion = c.as-mut-slice.result.now in
-    let after : List SlotRegion = c.insert-region.new.dest in
-    let n : length before ≡ min c.args.room (length xs + 1) = c.as-mut-slice.ensures.len ∙ c.in-ok-dest.ensures ∙ omega (arith, c.saturating-add.ensures) in
-    let q = over_whole (λ (host : ℕ) (ys : List SlotRegion). Inserts slot_range slot_place host ys c.args.region before after (Err c.in-Err-insert-region.error)) col c.args.host-len xs made.answer.1 made.answer.2 (c.in-Err-insert-region.ensures.exact made.lawful) in
-    insertion_refused c.args.host-len c.args.room xs c.args.region before after c.in-Err-insert-region.error n q
+    let before : List SlotRegion = c.as_mut_slice.result.now in
+    let after : List SlotRegion = c.insert_region.new.dest in
+    let n : length before ≡ min c.args.room (length xs + 1) = c.as_mut_slice.ensures.len ∙ c.in_ok-dest.ensures ∙ omega (arith, c.saturating_add.ensures) in
+    let q = over_whole (λ (host : ℕ) (ys : List SlotRegion). Inserts slot_range slot_place host ys c.args.region before after (Err c.in-Err-insert_region.error)) col c.args.host_len xs made.answer.1 made.answer.2 (c.in-Err-insert_region.ensures.exact made.lawful) in
+    insertion_refused c.args.host_len c.args.room xs c.args.region before after c.in-Err-insert_region.error n q

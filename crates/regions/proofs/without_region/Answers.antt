@@ -13,28 +13,28 @@ pub returns-in-Err : goal.returns-in-Err
 returns-in-Err c h =
     let xs = c.args.table.now in
     let rs = map (shown slot_range slot_place) xs in
-    absurd (not_refused c.args.host-len (length xs) rs c.in-Err.error (sym (length-map xs (shown slot_range slot_place))) h c.in-Err.ensures.answer)
+    absurd (not_refused c.args.host_len (length xs) rs c.in-Err.error (sym (length-map xs (shown slot_range slot_place))) h c.in-Err.ensures.answer)
 
-pub returns-in-Ok-remove-region : goal.returns-in-Ok-remove-region
-returns-in-Ok-remove-region c h =
+pub returns-in-Ok-remove_region : goal.returns-in-Ok-remove_region
+returns-in-Ok-remove_region c h =
     let xs = c.args.table.now in
     let col = c.in-Ok.collection in
     let made = c.in-Ok.ensures in
-    let before : List SlotRegion = c.as-mut-slice.result.now in
-    let after : List SlotRegion = c.remove-region.new.dest in
-    let n : length before ≡ min c.args.room (length xs) = c.as-mut-slice.ensures.len ∙ c.in-ok-dest.ensures ∙ refl in
-    let q = over_whole (λ (host : ℕ) (ys : List SlotRegion). Removes slot_range slot_place host ys c.args.start c.args.len before after (Ok (c.in-Ok-remove-region.count, c.in-Ok-remove-region.removed))) col c.args.host-len xs made.answer.1 made.answer.2 (c.in-Ok-remove-region.ensures.exact made.lawful) in
-    let k : length after ≡ vec_len c.in-ok-dest.dest = c.remove-region.auto.dest ∙ c.as-mut-slice.ensures.len in
-    removal_made c.args.host-len c.args.room xs c.args.start c.args.len before after c.in-Ok-remove-region.count c.in-Ok-remove-region.removed c.truncate.new.self n q
-    (c.truncate.ensures.items ∙ cut_off c.in-Ok-remove-region.count (vec_len c.in-ok-dest.dest) after (drop (length after) c.in-ok-dest.dest.items) k)
+    let before : List SlotRegion = c.as_mut_slice.result.now in
+    let after : List SlotRegion = c.remove_region.new.dest in
+    let n : length before ≡ min c.args.room (length xs) = c.as_mut_slice.ensures.len ∙ c.in_ok-dest.ensures ∙ refl in
+    let q = over_whole (λ (host : ℕ) (ys : List SlotRegion). Removes slot_range slot_place host ys c.args.start c.args.len before after (Ok (c.in-Ok-remove_region.count, c.in-Ok-remove_region.removed))) col c.args.host_len xs made.answer.1 made.answer.2 (c.in-Ok-remove_region.ensures.exact made.lawful) in
+    let k : length after ≡ vec_len c.in_ok-dest.dest = c.remove_region.auto.dest ∙ c.as_mut_slice.ensures.len in
+    removal_made c.args.host_len c.args.room xs c.args.start c.args.len before after c.in-Ok-remove_region.count c.in-Ok-remove_region.removed c.truncate.new.self n q
+    (c.truncate.ensures.items ∙ cut_off c.in-Ok-remove_region.count (vec_len c.in_ok-dest.dest) after (drop (length after) c.in_ok-dest.dest.items) k)
 
-pub returns-in-Err-remove-region : goal.returns-in-Err-remove-region
-returns-in-Err-remove-region c h =
+pub returns-in-Err-remove_region : goal.returns-in-Err-remove_region
+returns-in-Err-remove_region c h =
     let xs = c.args.table.now in
     let col = c.in-Ok.collection in
     let made = c.in-Ok.ensures in
-    let before : List SlotRegion = c.as-mut-slice.result.now in
-    let after : List SlotRegion = c.remove-region.new.dest in
-    let n : length before ≡ min c.args.room (length xs) = c.as-mut-slice.ensures.len ∙ c.in-ok-dest.ensures ∙ refl in
-    let q = over_whole (λ (host : ℕ) (ys : List SlotRegion). Removes slot_range slot_place host ys c.args.start c.args.len before after (Err c.in-Err-remove-region.error)) col c.args.host-len xs made.answer.1 made.answer.2 (c.in-Err-remove-region.ensures.exact made.lawful) in
-    removal_refused c.args.host-len c.args.room xs c.args.start c.args.len before after c.in-Err-remove-region.error n q
+    let before : List SlotRegion = c.as_mut_slice.result.now in
+    let after : List SlotRegion = c.remove_region.new.dest in
+    let n : length before ≡ min c.args.room (length xs) = c.as_mut_slice.ensures.len ∙ c.in_ok-dest.ensures ∙ refl in
+    let q = over_whole (λ (host : ℕ) (ys : List SlotRegion). Removes slot_range slot_place host ys c.args.start c.args.len before after (Err c.in-Err-remove_region.error)) col c.args.host_len xs made.answer.1 made.answer.2 (c.in-Err-remove_region.ensures.exact made.lawful) in
+    removal_refused c.args.host_len c.args.room xs c.args.start c.args.len before after c.in-Err-remove_region.error n q

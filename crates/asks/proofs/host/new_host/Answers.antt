@@ -5,7 +5,7 @@ use Rattle.asks.proofs.host.new_host.Goals as goal
 
 pub loop-place-preserved : goal.loop-place-preserved
 loop-place-preserved c =
-    let q = c.in-ok-push.ensures in
+    let q = c.in_ok-push.ensures in
     let n : vec_len c.loop-place.host ≡ c.loop-place.place = c.loop-place.invariant.0 in
     let last : get_or (vec_items c.push.new.self) (vec_len c.loop-place.host) 0 ≡ ((c.loop-place.place % 256) * 7 + 3) % 256 = q.by_index.1 0 refl in (
       q.len ∙ ap (λ (m : ℕ). m + 1) n,

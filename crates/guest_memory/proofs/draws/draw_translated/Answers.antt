@@ -13,8 +13,8 @@ returns g c =
     let a = c.args.addr.0 in
     let n = c.args.count in
     let access = c.args.access in
-    let targets = c.in-ok-targets.targets in
+    let targets = c.in_ok-targets.targets in
     record {
-      within = safe_more gr.host targets.length n c.draw-physical.result (run_le m a n access targets c.in-ok-targets.ensures) c.draw-physical.ensures.within;
-      answer = λ h. c.draw-physical.ensures.answer h ∙ ap (drawn_run gr) c.in-ok-targets.ensures ∙ sym (through_run gr m a n access c.if-count-eq0.false);
+      within = safe_more gr.host targets.length n c.draw_physical.result (run_le m a n access targets c.in_ok-targets.ensures) c.draw_physical.ensures.within;
+      answer = λ h. c.draw_physical.ensures.answer h ∙ ap (drawn_run gr) c.in_ok-targets.ensures ∙ sym (through_run gr m a n access c.if-count-eq0.false);
     }

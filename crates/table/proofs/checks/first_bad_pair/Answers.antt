@@ -24,7 +24,7 @@ loop-i-preserved g c =
     let lt : c.loop-i.i - 1 < length xs = omega arith in
     let left = range_read f xs _ _ lt c.index-table-i.is in
     let right = range_read f xs _ _ c.loop-i-test.true c.index-table-i-in-loop-i.is in
-    paired_more (map f xs) c.loop-i.i c.loop-i.auto.i c.loop-i.invariant (rw (left, right) (sym c.in-default.ensures))
+    paired_more (map f xs) c.loop-i.i c.loop-i.auto.i c.loop-i.invariant (rw (left, right) (sym c.in_default.ensures))
 
 pub returns : goal.returns
 returns g c =

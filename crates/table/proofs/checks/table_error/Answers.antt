@@ -8,4 +8,4 @@ pub returns-in-None : goal.returns-in-None
 returns-in-None g c =
     let range = g.R.AddressRange.range in
     let place = g.R.GuestMemoryRegion.place in
-    fault_none _ (map (shown range place) c.args.table.now) _ (sym c.in-None.ensures) (c.first-bad-pair.ensures ∙ ap neighbours (sym (ranges range place c.args.table.now)))
+    fault_none _ (map (shown range place) c.args.table.now) _ (sym c.in-None.ensures) (c.first_bad_pair.ensures ∙ ap neighbours (sym (ranges range place c.args.table.now)))

@@ -7,8 +7,8 @@ use Rattle.table.proofs.Tables.{range_read}
 use Rattle.table.proofs.Places.{fits, shared, clear_not}
 use Rattle.table.proofs.edits.free_place.Goals as goal
 
-pub returns-then-ends-before : goal.returns-then-ends-before
-returns-then-ends-before g c =
+pub returns-then-ends_before : goal.returns-then-ends_before
+returns-then-ends_before g c =
     let f = g.R.AddressRange.range in
     let ys = c.args.table.now in
     let m = length-map ys f in
@@ -17,11 +17,11 @@ returns-then-ends-before g c =
     record {
       within = omega arith;
       exact = λ asc some. fits (map f ys) s c.loop-i.i (rw m asc) some (omega arith) c.loop-i.invariant
-          (λ h. subst (Apart s) (sym e) (c.ends-before-then-not-ends-before.ensures.0 c.if-ends-before.true));
+          (λ h. subst (Apart s) (sym e) (c.ends_before-then-not-ends_before.ensures.0 c.if-ends_before.true));
     }
 
-pub returns-then-not-ends-before : goal.returns-then-not-ends-before
-returns-then-not-ends-before g c =
+pub returns-then-not-ends_before : goal.returns-then-not-ends_before
+returns-then-not-ends_before g c =
     let f = g.R.AddressRange.range in
     let ys = c.args.table.now in
     let m = length-map ys f in
@@ -30,7 +30,7 @@ returns-then-not-ends-before g c =
     record {
       within = tt;
       exact = λ asc some. clear_not (map f ys) s c.loop-i.i (omega arith)
-          (ap (λ (r : Range). clashes r s) e ∙ shared (f c.index-table-i.result) s _ _ c.if-not-ends-before.true c.if-ends-before.false c.ends-before.ensures c.ends-before-then-not-ends-before.ensures);
+          (ap (λ (r : Range). clashes r s) e ∙ shared (f c.index-table-i.result) s _ _ c.if-not-ends_before.true c.if-ends_before.false c.ends_before.ensures c.ends_before-then-not-ends_before.ensures);
     }
 
 pub loop-i-preserved : goal.loop-i-preserved
@@ -38,7 +38,7 @@ loop-i-preserved g c =
     let f = g.R.AddressRange.range in
     let s = f c.args.new.now in
     let e = range_read f c.args.table.now _ _ c.loop-i-test.true c.index-table-i.is in
-    below_more _ _ c.loop-i.invariant (subst (λ (t : Range). Apart t s) (sym e) (c.ends-before.ensures.0 c.if-not-ends-before.false))
+    below_more _ _ c.loop-i.invariant (subst (λ (t : Range). Apart t s) (sym e) (c.ends_before.ensures.0 c.if-not-ends_before.false))
 
 pub returns : goal.returns
 returns g c =

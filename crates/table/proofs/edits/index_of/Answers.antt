@@ -13,8 +13,8 @@ same_some o p q = cc
 never_some : {j : ℕ} (o : Option ℕ) → None ≡ o → o ≡ Some j → ⊥
 never_some o p q = let z : ◌≡◌ {A = ℕ} 0 1 = cc in omega arith
 
-pub returns-then-is-exactly : goal.returns-then-is-exactly
-returns-then-is-exactly g c =
+pub returns-then-is_exactly : goal.returns-then-is_exactly
+returns-then-is_exactly g c =
     let range = g.R.AddressRange.range in
     let xs = c.args.table.now in
     let lt : c.in-Some.i < length xs = c.in-Some.ensures.within in
@@ -22,11 +22,11 @@ returns-then-is-exactly g c =
     record {
       within = lt;
       exact = λ host k. sym (exactly_at range g.R.GuestMemoryRegion.place host xs [] k c.args.start.0 c.args.len c.in-Some.i lt
-          (ap (exactly c.args.start.0 c.args.len) e ∙ sym c.is-exactly.ensures ∙ c.if-is-exactly.true));
+          (ap (exactly c.args.start.0 c.args.len) e ∙ sym c.is_exactly.ensures ∙ c.if-is_exactly.true));
     }
 
-pub returns-else-is-exactly : goal.returns-else-is-exactly
-returns-else-is-exactly g c =
+pub returns-else-is_exactly : goal.returns-else-is_exactly
+returns-else-is_exactly g c =
     let range = g.R.AddressRange.range in
     let place = g.R.GuestMemoryRegion.place in
     let xs = c.args.table.now in
@@ -37,7 +37,7 @@ returns-else-is-exactly g c =
       exact = λ host k. sym (none_exactly range place host xs [] k c.args.start.0 c.args.len (λ j h q.
           let i = same_some _ (c.in-Some.ensures.exact (ascending range place xs host k)) q in
           subst (λ (n : ℕ). exactly c.args.start.0 c.args.len (range_at (map range xs) n) ≡ false) i
-          (ap (exactly c.args.start.0 c.args.len) e ∙ sym c.is-exactly.ensures ∙ c.if-is-exactly.false)));
+          (ap (exactly c.args.start.0 c.args.len) e ∙ sym c.is_exactly.ensures ∙ c.if-is_exactly.false)));
     }
 
 pub returns-in-None : goal.returns-in-None

@@ -10,7 +10,7 @@ loop-low-preserved-then-addr-start g c =
     let xs = map f c.args.table.now in
     let mid : ℕ = c.loop-low.low + (c.loop-low.high - c.loop-low.low) / 2 in
     let lt : mid < length c.args.table.now = omega arith in
-    let s = start_read f c.args.table.now mid c.index-table-mid.result lt c.index-table-mid.is c.start-addr-start.result.0 c.start-addr-start.ensures in
+    let s = start_read f c.args.table.now mid c.index-table-mid.result lt c.index-table-mid.is c.start_addr-start.result.0 c.start_addr-start.ensures in
     (omega arith, omega arith, λ q. ((c.loop-low.invariant.2 q).0, above xs (length c.args.table.now) q c.args.addr.0 mid (omega arith)))
 
 pub returns-then-addr-start-2 : goal.returns-then-addr-start-2
@@ -19,7 +19,7 @@ returns-then-addr-start-2 g c =
     let xs = map f c.args.table.now in
     let mid : ℕ = c.loop-low.low + (c.loop-low.high - c.loop-low.low) / 2 in
     let lt : mid < length c.args.table.now = omega arith in
-    let s = start_read f c.args.table.now mid c.index-table-mid.result lt c.index-table-mid.is c.start-addr-start.result.0 c.start-addr-start.ensures in
+    let s = start_read f c.args.table.now mid c.index-table-mid.result lt c.index-table-mid.is c.start_addr-start.result.0 c.start_addr-start.ensures in
     let n = len_read f c.args.table.now mid c.index-table-mid.result lt c.index-table-mid.is c.len.result c.len.ensures in
     let m = length-map c.args.table.now f in
     record { within = omega arith; exact = λ q. sym (found_at xs (rw m q) mid c.args.addr.0 (omega arith) (omega arith) (omega arith)) }
@@ -30,7 +30,7 @@ loop-low-preserved g c =
     let xs = map f c.args.table.now in
     let mid : ℕ = c.loop-low.low + (c.loop-low.high - c.loop-low.low) / 2 in
     let lt : mid < length c.args.table.now = omega arith in
-    let s = start_read f c.args.table.now mid c.index-table-mid.result lt c.index-table-mid.is c.start-addr-start.result.0 c.start-addr-start.ensures in
+    let s = start_read f c.args.table.now mid c.index-table-mid.result lt c.index-table-mid.is c.start_addr-start.result.0 c.start_addr-start.ensures in
     let n = len_read f c.args.table.now mid c.index-table-mid.result lt c.index-table-mid.is c.len.result c.len.ensures in
     (omega arith, omega arith, λ q. (below xs (length c.args.table.now) q c.args.addr.0 mid (omega arith) (omega arith) (omega arith), (c.loop-low.invariant.2 q).1))
 

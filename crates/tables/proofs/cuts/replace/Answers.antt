@@ -8,10 +8,10 @@ use Rattle.tables.proofs.cuts.replace.Goals as goal
 
 pub splice-requires : goal.splice-requires
 splice-requires c =
-    let i = c.first-above-i.result in
-    let j = c.first-above-j.result in
-    let a = c.first-above-i.ensures in
-    let b = c.first-above-j.ensures in
+    let i = c.first_above-i.result in
+    let j = c.first_above-j.result in
+    let a = c.first_above-i.ensures in
+    let b = c.first_above-j.ensures in
     let le : i ≤ j = ⊎_elim (λ (l : j < i). absurd (omega (arith, c.requires.range, a.0, a.1 j l, b.2 j (omega arith) (omega (arith, a.0))))) (λ (g : i ≤ j). g) (cases_lt j i) in
     record { order = le; some = b.0; within = omega (arith, c.requires.room); room = omega (arith, c.requires.room, b.0) }
 
@@ -21,12 +21,12 @@ returns c =
     let ys = c.splice.new.runs in
     let mid = c.args.mid.now in
     let n = c.args.count in
-    let i = c.first-above-i.result in
-    let j = c.first-above-j.result in
+    let i = c.first_above-i.result in
+    let j = c.first_above-j.result in
     let lo = c.args.iova in
     let hi = c.args.end in
-    let a = c.first-above-i.ensures in
-    let b = c.first-above-j.ensures in
+    let a = c.first_above-i.ensures in
+    let b = c.first_above-j.ensures in
     let jn : j ≤ n = b.0 in
     let le : i ≤ j = ⊎_elim (λ (l : j < i). absurd (omega (arith, c.requires.range, a.0, a.1 j l, b.2 j (omega arith) (omega (arith, a.0))))) (λ (g : i ≤ j). g) (cases_lt j i) in
     let e = c.splice.ensures in

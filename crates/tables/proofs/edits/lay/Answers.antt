@@ -12,10 +12,10 @@ returns g c =
     let m : Map = g.T.RunTable.mappings c.args.table.now in
     let a = c.args.iova.0 in
     let n = c.args.length in
-    let end = c.in-ok-end.end in
-    let p = end_given a n end c.in-ok-end.ensures in
-    let r : Run = record { from = a; end = end; diff = (c.args.map-to.0 + (2 ^ 64 - a)) % 2 ^ 64; perm = c.args.perm } in
-    let next : Map = with_range m a n (mapping_to a c.args.map-to.0 (bits c.args.perm)) in
+    let end = c.in_ok-end.end in
+    let p = end_given a n end c.in_ok-end.ensures in
+    let r : Run = record { from = a; end = end; diff = (c.args.map_to.0 + (2 ^ 64 - a)) % 2 ^ 64; perm = c.args.perm } in
+    let next : Map = with_range m a n (mapping_to a c.args.map_to.0 (bits c.args.perm)) in
     let same = run_laid m r ∙ ap (λ e. patched m a e (λ _. Some (value r))) p.1 in
     let limit = up_to g.T.EditableTable.most in
     record {

@@ -9,8 +9,8 @@ returns g c =
     let m : Map = g.T.RunTable.mappings c.args.table.now in
     let a = c.args.iova.0 in
     let n = c.args.length in
-    let end = c.in-ok-end.end in
-    let p = end_given a n end c.in-ok-end.ensures in
+    let end = c.in_ok-end.end in
+    let p = end_given a n end c.in_ok-end.ensures in
     let same = none_laid m a end ∙ ap (λ e. patched m a e empty) p.1 in
     let limit = up_to g.T.EditableTable.most in
     record {

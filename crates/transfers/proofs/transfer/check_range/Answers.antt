@@ -13,10 +13,10 @@ use Rattle.transfers.proofs.transfer.check_range.Goals as goal
 come : (m : Memory) (x y : Permissions) (a b n k d e : ℕ) → x ≡ y → a ≡ b → n ≡ k → d ≡ e → reached m x a n ≡ d + reached m x (a + d) (n - d) → reached m y b k ≡ e + reached m y (b + e) (k - e)
 come m x y a b n k d e p q r s t = rw (← p, ← q, ← r, ← s) t
 
-pub returns-in-default : goal.returns-in-default
-returns-in-default g c h =
+pub returns-in_default : goal.returns-in_default
+returns-in_default g c h =
     let m = g.G.GuestMemory.memory c.args.memory.now in
-    sym (inaccessible m (g.G.GuestMemory.keeps c.args.memory.now h) c.args.addr.0 c.args.count c.args.access c.in-default.field-0 (omega arith) (subst (λ k. transferred m k c.args.addr.0 c.args.count c.args.access ≡ Err c.in-default.field-0) c.host-len-held.ensures (c.in-default.ensures.exact h)))
+    sym (inaccessible m (g.G.GuestMemory.keeps c.args.memory.now h) c.args.addr.0 c.args.count c.args.access c.in_default.field-0 (omega arith) (subst (λ k. transferred m k c.args.addr.0 c.args.count c.args.access ≡ Err c.in_default.field-0) c.host_len-held.ensures (c.in_default.ensures.exact h)))
 
 pub loop-walk-preserved : goal.loop-walk-preserved
 loop-walk-preserved g c =
@@ -50,8 +50,8 @@ returns g c h =
     let first : walk.addr.0 ≡ c.args.addr.0 = ap (λ (y : GuestAddress). y.0) (inv.0 ∙ b.within.1) in
     let all : walk.count ≡ c.args.count = inv.1 ∙ b.within.2 in
     let for : walk.access ≡ c.args.access = inv.2 ∙ b.within.3.0 in
-    let z : reached m walk.access (walk.addr.0 + walk.done) (walk.count - walk.done) ≡ 0 = subst (AheadNext m walk) c.in-default-piece.is s.0 in
+    let z : reached m walk.access (walk.addr.0 + walk.done) (walk.count - walk.done) ≡ 0 = subst (AheadNext m walk) c.in_default-piece.is s.0 in
     let moved : reached m walk.access walk.addr.0 walk.count ≡ walk.done = omega (arith, s.1) in
     let r : reached m c.args.access c.args.addr.0 c.args.count ≡ walk.done = rw (← for, ← first, ← all) moved in
-    sym (accessible_is m c.args.addr.0 c.args.count c.args.access x.0.0 (subst (λ k. started m k c.args.addr.0 c.args.count c.args.access ≡ Ok x.0.0) c.host-len-held.ensures x.0.1)
+    sym (accessible_is m c.args.addr.0 c.args.count c.args.access x.0.0 (subst (λ k. started m k c.args.addr.0 c.args.count c.args.access ≡ Ok x.0.0) c.host_len-held.ensures x.0.1)
     ∙ ap (λ k. eqb k c.args.count) r ∙ ap (eqb walk.done) (sym all))

@@ -16,10 +16,10 @@ use Rattle.translation.proofs.lookup.lookup.Given as given
 use Rattle.translation.proofs.lookup.lookup.Goals as goal
 use Rattle.translation.proofs.lookup.lookup.Goals.{After-stretch-stop, After-loop-at}
 
-pub returns-in-default : goal.returns-in-default
+pub returns-in_default : goal.returns-in_default
 unfolding looked_up
-returns-in-default g c =
-    let t = outside c.args.iova.0 c.args.length c.in-default.ensures in
+returns-in_default g c =
+    let t = outside c.args.iova.0 c.args.length c.in_default.ensures in
     record { answer = sym (cond-false _ _ _ t); missed = sym (cond-false _ _ _ t); forbidden = sym (cond-false _ _ _ t) }
 
 pub loop-at-init : goal.loop-at-init

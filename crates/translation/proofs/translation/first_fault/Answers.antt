@@ -8,8 +8,8 @@ use Rattle.translation.proofs.translation.first_fault.Goals as goal
 pub returns-then-at-end : goal.returns-then-at-end
 returns-then-at-end g c = sym (lowest_none _ _ _ _ (λ x l h. c.loop-at.invariant.1 x l (omega arith)))
 
-pub returns-in-default : goal.returns-in-default
-returns-in-default g c = sym (lowest_at _ _ _ _ c.loop-at.at None c.loop-at.invariant.0 (omega arith) c.loop-at.invariant.1 c.in-default.ensures refl)
+pub returns-in_default : goal.returns-in_default
+returns-in_default g c = sym (lowest_at _ _ _ _ c.loop-at.at None c.loop-at.invariant.0 (omega arith) c.loop-at.invariant.1 c.in_default.ensures refl)
 
 pub returns-then-not-allow : goal.returns-then-not-allow
 returns-then-not-allow g c =

@@ -16,13 +16,13 @@ translated_in m a n end access fault e f =
     let k : n ≡ end - a = omega arith in
     cond-true _ _ _ i.0 ∙ ap (cursor_unless a n access) (ap (lowest_fault m access a) k ∙ sym f)
 
-pub returns-in-default : goal.returns-in-default
+pub returns-in_default : goal.returns-in_default
 unfolding translated
-returns-in-default g c = sym (cond-false _ _ _ (outside c.args.iova.0 c.args.length c.in-default.ensures))
+returns-in_default g c = sym (cond-false _ _ _ (outside c.args.iova.0 c.args.length c.in_default.ensures))
 
-pub returns-in-Some-first-fault : goal.returns-in-Some-first-fault
-returns-in-Some-first-fault g c =
-    sym (translated_in _ _ _ c.in-Some.end.0 _ (Some (c.in-Some-first-fault.cause, c.in-Some-first-fault.at)) c.in-Some.ensures c.in-Some-first-fault.ensures)
+pub returns-in-Some-first_fault : goal.returns-in-Some-first_fault
+returns-in-Some-first_fault g c =
+    sym (translated_in _ _ _ c.in-Some.end.0 _ (Some (c.in-Some-first_fault.cause, c.in-Some-first_fault.at)) c.in-Some.ensures c.in-Some-first_fault.ensures)
 
 pub returns-in-None : goal.returns-in-None
 returns-in-None g c = ap Ok c.new.ensures ∙ sym (translated_in _ _ _ c.in-Some.end.0 _ None c.in-Some.ensures c.in-None.ensures)

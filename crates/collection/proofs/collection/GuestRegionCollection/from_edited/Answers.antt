@@ -9,7 +9,7 @@ use Rattle.collection.proofs.collection.GuestRegionCollection.from_edited.Goals 
 pub returns-then-table-count : goal.returns-then-table-count
 returns-then-table-count g c =
     let m = length-map c.args.table.now (shown g.R.AddressRange.range g.R.GuestMemoryRegion.place) in
-    record { answer = edited_none c.args.host-len c.args.count (map (shown g.R.AddressRange.range g.R.GuestMemoryRegion.place) c.args.table.now) (omega arith); lawful = tt }
+    record { answer = edited_none c.args.host_len c.args.count (map (shown g.R.AddressRange.range g.R.GuestMemoryRegion.place) c.args.table.now) (omega arith); lawful = tt }
 
 pub returns-in-Some : goal.returns-in-Some
 returns-in-Some g c =
@@ -17,7 +17,7 @@ returns-in-Some g c =
     let m = length-map c.args.table.now f in
     let z : c.args.count - 0 ≡ c.args.count = omega arith in
     let t : take c.args.count (map f c.args.table.now) ≡ map f (take (c.args.count - 0) c.args.table.now) = rw z (take-map f c.args.count c.args.table.now) in
-    record { answer = edited_some c.args.host-len c.args.count (map f c.args.table.now) (omega arith) ∙ ap (table_fault c.args.host-len) t ∙ sym c.in-Some.ensures; lawful = tt }
+    record { answer = edited_some c.args.host_len c.args.count (map f c.args.table.now) (omega arith) ∙ ap (table_fault c.args.host_len) t ∙ sym c.in-Some.ensures; lawful = tt }
 
 pub returns-in-None : goal.returns-in-None
 returns-in-None g c =
@@ -27,6 +27,6 @@ returns-in-None g c =
     let e = sym c.in-None.ensures in
     let t : take c.args.count (map f c.args.table.now) ≡ map f (take (c.args.count - 0) c.args.table.now) = rw z (take-map f c.args.count c.args.table.now) in
     record {
-      answer = (edited_some c.args.host-len c.args.count (map f c.args.table.now) (omega arith) ∙ ap (table_fault c.args.host-len) t ∙ e, refl, refl);
-      lawful = lawful_made c.args.host-len (map f (take c.args.count c.args.table.now)) (omega arith) (rw z at e);
+      answer = (edited_some c.args.host_len c.args.count (map f c.args.table.now) (omega arith) ∙ ap (table_fault c.args.host_len) t ∙ e, refl, refl);
+      lawful = lawful_made c.args.host_len (map f (take c.args.count c.args.table.now)) (omega arith) (rw z at e);
     }

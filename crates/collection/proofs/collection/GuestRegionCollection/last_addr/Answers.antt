@@ -12,7 +12,7 @@ returns-in-Some g c h =
     let host = c.args.self.now.host_len in
     let xs = c.regions.result.now in
     let some : 0 < length xs = search rules in
-    c.last-addr.ensures
+    c.last_addr.ensures
     ∙ last_highest range place host xs (subst (λ (ys : List g.row.R.Denot). KeepsMeaning (record { host = host; regions = map (shown range place) ys })) (sym c.regions.ensures) h) some c.in-Some.region.now c.in-Some.ensures.item.1
     ∙ ap (λ (ys : List g.row.R.Denot). highest (map (shown range place) ys)) c.regions.ensures
 

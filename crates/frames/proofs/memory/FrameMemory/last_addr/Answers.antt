@@ -8,7 +8,7 @@ returns-then-entries-n-ne0 c h =
     let vs = c.args.self.now.entries.now in
     let top : base + 4096 * length vs ≤ 2 ^ 64 = ends_by_top base vs h.0 in
     let e = highest_frame base vs (c.loop-n.n - 1) top (omega arith) c.if-entries-n-ne0.true (λ k l u. c.loop-n.invariant k (omega arith) u) in
-    let m = c.saturating-mul.ensures in
+    let m = c.saturating_mul.ensures in
     omega arith
 
 pub returns : goal.returns

@@ -12,17 +12,17 @@ use Rattle.guest_box.proofs.guest_box.GuestBox.insert.Goals as goal
 
 pub invariant-of-self-in-Ok : goal.invariant-of-self-in-Ok
 invariant-of-self-in-Ok c =
-    let q = of_parts (λ (h : ℕ) (ys : List SlotRegion) (r : Result (Vec SlotRegion Global) GuestRegionCollectionError). Insertion h c.args.room ys c.args.region r) (vec_len c.args.self.now.host) c.len.result c.in-Regions.regions c.args.self.now.memory c.as-slice.result.now c.in-ok-edited.edited (Ok c.in-Ok.inserted) c.args.self.now.kept c.in-Regions.is c.len.ensures c.as-slice.ensures.value c.in-Ok.is c.in-ok-edited.ensures in
+    let q = of_parts (λ (h : ℕ) (ys : List SlotRegion) (r : Result (Vec SlotRegion Global) GuestRegionCollectionError). Insertion h c.args.room ys c.args.region r) (vec_len c.args.self.now.host) c.len.result c.in-Regions.regions c.args.self.now.memory c.as_slice.result.now c.in_ok-edited.edited (Ok c.in-Ok.inserted) c.args.self.now.kept c.in-Regions.is c.len.ensures c.as_slice.ensures.value c.in-Ok.is c.in_ok-edited.ensures in
     (table_kept (vec_len c.args.self.now.host) c.in-Ok.inserted q.2, tt)
 
 pub returns-in-Ok : goal.returns-in-Ok
 returns-in-Ok c =
-    let q = of_parts (λ (h : ℕ) (ys : List SlotRegion) (r : Result (Vec SlotRegion Global) GuestRegionCollectionError). Insertion h c.args.room ys c.args.region r) (vec_len c.args.self.now.host) c.len.result c.in-Regions.regions c.args.self.now.memory c.as-slice.result.now c.in-ok-edited.edited (Ok c.in-Ok.inserted) c.args.self.now.kept c.in-Regions.is c.len.ensures c.as-slice.ensures.value c.in-Ok.is c.in-ok-edited.ensures in
+    let q = of_parts (λ (h : ℕ) (ys : List SlotRegion) (r : Result (Vec SlotRegion Global) GuestRegionCollectionError). Insertion h c.args.room ys c.args.region r) (vec_len c.args.self.now.host) c.len.result c.in-Regions.regions c.args.self.now.memory c.as_slice.result.now c.in_ok-edited.edited (Ok c.in-Ok.inserted) c.args.self.now.kept c.in-Regions.is c.len.ensures c.as_slice.ensures.value c.in-Ok.is c.in_ok-edited.ensures in
     let t = inserted_told c.args.room c.args.self.now.memory c.in-Regions.regions c.in-Regions.is (vec_len c.args.self.now.host) c.args.region c.in-Ok.inserted c.len-count.result q c.len-count.ensures in
     (t.0, refl, refl, t.1)
 
 pub returns-in-Err : goal.returns-in-Err
 returns-in-Err c =
-    let q = of_parts (λ (h : ℕ) (ys : List SlotRegion) (r : Result (Vec SlotRegion Global) GuestRegionCollectionError). Insertion h c.args.room ys c.args.region r) (vec_len c.args.self.now.host) c.len.result c.in-Regions.regions c.args.self.now.memory c.as-slice.result.now c.in-ok-edited.edited (Err c.in-Err.error) c.args.self.now.kept c.in-Regions.is c.len.ensures c.as-slice.ensures.value c.in-Err.is c.in-ok-edited.ensures in
+    let q = of_parts (λ (h : ℕ) (ys : List SlotRegion) (r : Result (Vec SlotRegion Global) GuestRegionCollectionError). Insertion h c.args.room ys c.args.region r) (vec_len c.args.self.now.host) c.len.result c.in-Regions.regions c.args.self.now.memory c.as_slice.result.now c.in_ok-edited.edited (Err c.in-Err.error) c.args.self.now.kept c.in-Regions.is c.len.ensures c.as_slice.ensures.value c.in-Err.is c.in_ok-edited.ensures in
     let t = not_inserted_told c.args.room c.args.self.now.memory c.in-Regions.regions c.in-Regions.is (vec_len c.args.self.now.host) c.args.region c.in-Err.error q in
     (ap (λ (r : Refusal). Refused r) c.into.ensures ∙ t.0, refl, refl, t.1)

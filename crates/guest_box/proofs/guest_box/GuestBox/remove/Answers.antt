@@ -15,19 +15,19 @@ use Rattle.guest_box.proofs.guest_box.GuestBox.remove.Goals as goal
 
 pub invariant-of-self-in-Ok : goal.invariant-of-self-in-Ok
 invariant-of-self-in-Ok c =
-    let q = of_parts (λ (h : ℕ) (ys : List SlotRegion) (r : Result (Vec SlotRegion Global × SlotRegion) GuestRegionCollectionError). Removal h c.args.room ys c.args.start c.args.len r) (vec_len c.args.self.now.host) c.len.result c.in-Regions.regions c.args.self.now.memory c.as-slice.result.now c.in-ok-edited.edited (Ok (c.in-Ok.left, c.in-Ok.removed)) c.args.self.now.kept c.in-Regions.is c.len.ensures c.as-slice.ensures.value c.in-Ok.is c.in-ok-edited.ensures in
+    let q = of_parts (λ (h : ℕ) (ys : List SlotRegion) (r : Result (Vec SlotRegion Global × SlotRegion) GuestRegionCollectionError). Removal h c.args.room ys c.args.start c.args.len r) (vec_len c.args.self.now.host) c.len.result c.in-Regions.regions c.args.self.now.memory c.as_slice.result.now c.in_ok-edited.edited (Ok (c.in-Ok.left, c.in-Ok.removed)) c.args.self.now.kept c.in-Regions.is c.len.ensures c.as_slice.ensures.value c.in-Ok.is c.in_ok-edited.ensures in
     (table_kept (vec_len c.args.self.now.host) c.in-Ok.left q.2, tt)
 
 pub returns-in-Ok : goal.returns-in-Ok
 returns-in-Ok c =
-    let q = of_parts (λ (h : ℕ) (ys : List SlotRegion) (r : Result (Vec SlotRegion Global × SlotRegion) GuestRegionCollectionError). Removal h c.args.room ys c.args.start c.args.len r) (vec_len c.args.self.now.host) c.len.result c.in-Regions.regions c.args.self.now.memory c.as-slice.result.now c.in-ok-edited.edited (Ok (c.in-Ok.left, c.in-Ok.removed)) c.args.self.now.kept c.in-Regions.is c.len.ensures c.as-slice.ensures.value c.in-Ok.is c.in-ok-edited.ensures in
+    let q = of_parts (λ (h : ℕ) (ys : List SlotRegion) (r : Result (Vec SlotRegion Global × SlotRegion) GuestRegionCollectionError). Removal h c.args.room ys c.args.start c.args.len r) (vec_len c.args.self.now.host) c.len.result c.in-Regions.regions c.args.self.now.memory c.as_slice.result.now c.in_ok-edited.edited (Ok (c.in-Ok.left, c.in-Ok.removed)) c.args.self.now.kept c.in-Regions.is c.len.ensures c.as_slice.ensures.value c.in-Ok.is c.in_ok-edited.ensures in
     let t = removed_told c.args.room c.args.self.now.memory c.in-Regions.regions c.in-Regions.is (vec_len c.args.self.now.host) c.args.start c.args.len c.in-Ok.left c.in-Ok.removed c.len-count.result q c.len-count.ensures in
-    let told : Removed c.len-count.result (record { start = c.start-addr.result.0; len = c.len-in-Ok.result }) c.host-place.result ≡ region_told c.len-count.result (shown slot_range slot_place c.in-Ok.removed) =
-    λ i. Removed c.len-count.result (record { start = c.start-addr.ensures i; len = c.len-in-Ok.ensures i }) (c.host-place.ensures i) in
+    let told : Removed c.len-count.result (record { start = c.start_addr.result.0; len = c.len-in-Ok.result }) c.host_place.result ≡ region_told c.len-count.result (shown slot_range slot_place c.in-Ok.removed) =
+    λ i. Removed c.len-count.result (record { start = c.start_addr.ensures i; len = c.len-in-Ok.ensures i }) (c.host_place.ensures i) in
     (told ∙ t.0, refl, refl, t.1)
 
 pub returns-in-Err : goal.returns-in-Err
 returns-in-Err c =
-    let q = of_parts (λ (h : ℕ) (ys : List SlotRegion) (r : Result (Vec SlotRegion Global × SlotRegion) GuestRegionCollectionError). Removal h c.args.room ys c.args.start c.args.len r) (vec_len c.args.self.now.host) c.len.result c.in-Regions.regions c.args.self.now.memory c.as-slice.result.now c.in-ok-edited.edited (Err c.in-Err.error) c.args.self.now.kept c.in-Regions.is c.len.ensures c.as-slice.ensures.value c.in-Err.is c.in-ok-edited.ensures in
+    let q = of_parts (λ (h : ℕ) (ys : List SlotRegion) (r : Result (Vec SlotRegion Global × SlotRegion) GuestRegionCollectionError). Removal h c.args.room ys c.args.start c.args.len r) (vec_len c.args.self.now.host) c.len.result c.in-Regions.regions c.args.self.now.memory c.as_slice.result.now c.in_ok-edited.edited (Err c.in-Err.error) c.args.self.now.kept c.in-Regions.is c.len.ensures c.as_slice.ensures.value c.in-Err.is c.in_ok-edited.ensures in
     let t = not_removed_told c.args.room c.args.self.now.memory c.in-Regions.regions c.in-Regions.is (vec_len c.args.self.now.host) c.args.start c.args.len c.in-Err.error q in
     (ap (λ (r : Refusal). Refused r) c.into.ensures ∙ t.0, refl, refl, t.1)

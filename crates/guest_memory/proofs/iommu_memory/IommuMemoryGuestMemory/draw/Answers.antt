@@ -15,11 +15,11 @@ returns g c =
     record {
       cursor = c.pass.ensures;
       within = elim c.if-cursor.branch [
-        | then-cursor w ↦ subst (SafeDraw gr.host cur.count) (sym w.drawn-is) w.draw-physical-drawn.ensures.within
-        | else-cursor w ↦ subst (SafeDraw gr.host cur.count) (sym w.drawn-is) w.draw-translated-drawn.ensures.within
+        | then-cursor w ↦ subst (SafeDraw gr.host cur.count) (sym w.drawn-is) w.draw_physical-drawn.ensures.within
+        | else-cursor w ↦ subst (SafeDraw gr.host cur.count) (sym w.drawn-is) w.draw_translated-drawn.ensures.within
       ];
       answer = λ h. elim c.if-cursor.branch [
-        | then-cursor w ↦ w.drawn-is ∙ w.draw-physical-drawn.ensures.answer h ∙ sym (physical_drawn m cur.physical a cur.count cur.access w.if-cursor.true)
-        | else-cursor w ↦ w.drawn-is ∙ w.draw-translated-drawn.ensures.answer h ∙ sym (translated_drawn m cur.physical a cur.count cur.access w.if-cursor.false)
+        | then-cursor w ↦ w.drawn-is ∙ w.draw_physical-drawn.ensures.answer h ∙ sym (physical_drawn m cur.physical a cur.count cur.access w.if-cursor.true)
+        | else-cursor w ↦ w.drawn-is ∙ w.draw_translated-drawn.ensures.answer h ∙ sym (translated_drawn m cur.physical a cur.count cur.access w.if-cursor.false)
       ];
     }

@@ -11,16 +11,16 @@ use Rattle.guest_memory.proofs.iommu_memory.IommuMemoryGuestMemory.get_slices.Go
 pub returns-then-not-self : goal.returns-then-not-self
 returns-then-not-self g c = ap (λ (s : SliceCursor). Ok s) c.new.ensures ∙ sym (opened_off _ c.args.addr.0 c.args.count c.args.access c.if-not-self.true)
 
-pub returns-in-err-translate : goal.returns-in-err-translate
-returns-in-err-translate g c =
+pub returns-in_err-translate : goal.returns-in_err-translate
+returns-in_err-translate g c =
     let p = err_from_is_err_and c.from-residual.result c.from-residual.ensures.1 in
     p.1
     ∙ ap (λ (e : GuestMemoryError). Err e) p.2
-    ∙ ap (opened_by c.args.addr.0 c.args.count c.args.access) c.in-err-translate.ensures
+    ∙ ap (opened_by c.args.addr.0 c.args.count c.args.access) c.in_err-translate.ensures
     ∙ sym (opened_on _ c.args.addr.0 c.args.count c.args.access c.if-not-self.false)
 
 pub returns : goal.returns
 returns g c =
     ap (λ (s : SliceCursor). Ok s) c.new-2.ensures
-    ∙ ap (opened_by c.args.addr.0 c.args.count c.args.access) c.in-ok-translate.ensures
+    ∙ ap (opened_by c.args.addr.0 c.args.count c.args.access) c.in_ok-translate.ensures
     ∙ sym (opened_on _ c.args.addr.0 c.args.count c.args.access c.if-not-self.false)

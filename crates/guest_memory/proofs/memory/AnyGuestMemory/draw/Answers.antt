@@ -17,11 +17,11 @@ returns g c =
     record {
       cursor = c.pass.ensures;
       within = elim c.if-cursor.branch [
-        | then-cursor w ↦ subst (SafeDraw gr.host cur.count) (sym w.drawn-is) w.draw-physical-drawn.ensures.within
-        | else-cursor w ↦ subst (SafeDraw gr.host cur.count) (sym w.drawn-is) (w.draw-unmapped-drawn.ensures.within gr.host)
+        | then-cursor w ↦ subst (SafeDraw gr.host cur.count) (sym w.drawn-is) w.draw_physical-drawn.ensures.within
+        | else-cursor w ↦ subst (SafeDraw gr.host cur.count) (sym w.drawn-is) (w.draw_unmapped-drawn.ensures.within gr.host)
       ];
       answer = λ h. elim c.if-cursor.branch [
-        | then-cursor w ↦ w.drawn-is ∙ w.draw-physical-drawn.ensures.answer h ∙ sym (physical_drawn m cur.physical a cur.count cur.access w.if-cursor.true)
-        | else-cursor w ↦ w.drawn-is ∙ w.draw-unmapped-drawn.ensures.answer gr cur.access ∙ sym (translated_drawn m cur.physical a cur.count cur.access w.if-cursor.false)
+        | then-cursor w ↦ w.drawn-is ∙ w.draw_physical-drawn.ensures.answer h ∙ sym (physical_drawn m cur.physical a cur.count cur.access w.if-cursor.true)
+        | else-cursor w ↦ w.drawn-is ∙ w.draw_unmapped-drawn.ensures.answer gr cur.access ∙ sym (translated_drawn m cur.physical a cur.count cur.access w.if-cursor.false)
       ];
     }

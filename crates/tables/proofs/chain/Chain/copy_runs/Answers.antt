@@ -7,7 +7,7 @@ use Rattle.tables.proofs.Along.{stands_next, used_all, used_more, used_next, use
 use Rattle.tables.proofs.chain.Chain.copy_runs.Goals as goal
 
 pub loop-i-init : goal.loop-i-init
-loop-i-init c = (c.next-i.type-inv, omega arith, sym (stands_next c.args.self.now 0 0 (c.requires.linked, omega arith, refl)) ∙ sym c.next-i.ensures, refl)
+loop-i-init c = (c.next-i.type_inv, omega arith, sym (stands_next c.args.self.now 0 0 (c.requires.linked, omega arith, refl)) ∙ sym c.next-i.ensures, refl)
 
 pub bounds-out-n : goal.bounds-out-n
 bounds-out-n c = omega (arith, used_more c.args.self.now c.requires.linked c.loop-i.n c.loop-i.i c.loop-i.invariant.2 c.loop-i-test.true, c.requires.linked.2)
@@ -22,7 +22,7 @@ loop-i-preserved c =
     let i = c.loop-i.i in
     let v = c.loop-i.invariant in
     let h : n < length (used_slots old) = used_more old c.requires.linked n i v.2 c.loop-i-test.true in (
-      c.next-i-in-loop-i.type-inv,
+      c.next-i-in-loop-i.type_inv,
       omega arith,
       used_next old c.requires.linked n i v.2 h ∙ sym c.next-i-in-loop-i.ensures,
       take_more_set c.loop-i.out n (slot_at old.slots i).run (omega (arith, c.requires.linked.2))

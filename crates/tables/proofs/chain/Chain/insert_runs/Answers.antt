@@ -18,5 +18,5 @@ loop-i-preserved c = λ k s h.
     let was = c.loop-i.invariant k s h in
     let n = c.loop-i.i - 1 in
     let one : c.loop-i.i ≡ n + 1 = omega arith in
-    insert_more c.args.self.now c.loop-i.self c.insert-after.new.self k c.args.at n new h s.1 (omega arith)
-    (was.0, was.1 ∙ ap (λ m. take k rs ++ (drop m new ++ drop k rs)) one) c.insert-after.ensures
+    insert_more c.args.self.now c.loop-i.self c.insert_after.new.self k c.args.at n new h s.1 (omega arith)
+    (was.0, was.1 ∙ ap (λ m. take k rs ++ (drop m new ++ drop k rs)) one) c.insert_after.ensures

@@ -8,4 +8,4 @@ loop-init c = λ k s h. (s, rw (add-zero, take-append-drop))
 
 pub loop-preserved : goal.loop-preserved
 loop-preserved c = λ k s h.
-    unlink_more c.args.self.now c.loop.self c.unlink-after.new.self k c.args.at c.loop.counter c.args.count h c.loop-test.true (c.loop.invariant k s h) c.unlink-after.ensures
+    unlink_more c.args.self.now c.loop.self c.unlink_after.new.self k c.args.at c.loop.counter c.args.count h c.loop-test.true (c.loop.invariant k s h) c.unlink_after.ensures

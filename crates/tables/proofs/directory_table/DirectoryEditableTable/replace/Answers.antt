@@ -10,9 +10,9 @@ pub renew-n-requires : goal.renew-n-requires
 renew-n-requires c =
     let t = c.args.self.now in
     let rs = chain_runs t.chain in
-    let old = c.copy-runs-count.new.out in
-    let count = c.copy-runs-count.result in
-    let e = c.copy-runs-count.ensures in
+    let old = c.copy_runs-count.new.out in
+    let count = c.copy_runs-count.result in
+    let e = c.copy_runs-count.ensures in
     record {
       range = c.requires.range;
       room = omega (arith, e.few, c.requires.few);
@@ -23,7 +23,7 @@ renew-n-requires c =
 
 pub returns-then-n-gt255 : goal.returns-then-n-gt255
 returns-then-n-gt255 c =
-    let e = c.copy-runs-count.ensures in
+    let e = c.copy_runs-count.ensures in
     let p = left_out 255 (directory_map c.args.self.now) _ _ _ c.renew-n.ensures.canonical (patched_kept _ _ _ e.runs (omega (arith, e.few)) _ _ _ _ _ c.renew-n.ensures.map) c.if-n-gt255.true in
     record { answer = p.0; map = p.1 }
 
@@ -32,6 +32,6 @@ invariant-of-self c = (c.rewrite.ensures.linked, (canonical_kept _ _ _ (sym c.re
 
 pub returns : goal.returns
 returns c =
-    let e = c.copy-runs-count.ensures in
+    let e = c.copy_runs-count.ensures in
     let p = kept_in 255 (directory_map c.args.self.now) _ _ _ c.renew-n.ensures.canonical (patched_kept _ _ _ e.runs (omega (arith, e.few)) _ _ _ _ _ c.renew-n.ensures.map) c.if-n-gt255.false in
     record { answer = p.0; map = meaning_kept _ _ _ (sym c.rewrite.ensures.new) c.renew-n.ensures.count ∙ p.1 }

@@ -6,7 +6,7 @@ use Rattle.tables.proofs.directory_table.DirectoryRunTable.run_from.Goals as goa
 pub loop-i-init : goal.loop-i-init
 loop-i-init c =
     let d = c.args.self.now in
-    (c.next-i.type-inv, subst (Reached d.chain c.args.iova) (sym c.next-i.ensures) (reached_first d.chain d.linked c.args.iova))
+    (c.next-i.type_inv, subst (Reached d.chain c.args.iova) (sym c.next-i.ensures) (reached_first d.chain d.linked c.args.iova))
 
 pub loop-i-smaller : goal.loop-i-smaller
 loop-i-smaller c =
@@ -17,7 +17,7 @@ loop-i-smaller c =
 pub loop-i-preserved : goal.loop-i-preserved
 loop-i-preserved c =
     let d = c.args.self.now in (
-      c.next-i-in-loop-i.type-inv,
+      c.next-i-in-loop-i.type_inv,
       subst (Reached d.chain c.args.iova) (sym c.next-i-in-loop-i.ensures)
           (reached_more d.chain d.linked c.args.iova c.loop-i.i c.loop-i.invariant.1 c.loop-i-test.true c.if-run-iova.false),
     )

@@ -4,7 +4,7 @@ use Rattle.tables.proofs.Changes.{canonical_same}
 use Rattle.tables.proofs.iotlb.Iotlb.keep.Goals as goal
 
 pub invariant-of-self : goal.invariant-of-self
-invariant-of-self c = (c.requires.few, (canonical_same _ _ _ c.copy-front.ensures c.requires.canonical, tt))
+invariant-of-self c = (c.requires.few, (canonical_same _ _ _ c.copy_front.ensures c.requires.canonical, tt))
 
 pub returns : goal.returns
-returns c = fun_ext (λ a. meaning_same _ _ _ a c.copy-front.ensures)
+returns c = fun_ext (λ a. meaning_same _ _ _ a c.copy_front.ensures)
