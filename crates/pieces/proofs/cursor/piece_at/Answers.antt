@@ -27,6 +27,6 @@ returns-then-not-ends_within g c =
           let q = found (g.M.GuestMemoryBackend.ground b) (g.M.GuestMemoryBackend.keeps b h) c.args.addr.0 r (c.in-Some.ensures h) in
           let o = offset_is r c.args.addr.0 c.in-Some-to_region_addr.field-0.0 q.cover c.in-Some-to_region_addr.ensures in
           let e = ends (g.M.GuestMemoryBackend.ground b) c.args.addr.0 r q c.in-Some-host_place.place (sym c.host_place.ensures ∙ c.in-Some-host_place.is) in
-          let fits : c.in-Some-host_place.place + c.in-Some-to_region_addr.field-0.0 + c.min-len.result ≤ c.host_len.result = omega (arith, e, o, c.in-Some-to_region_addr.offset_is, q.low, q.high, c.min-len.ensures, c.len.ensures, c.host_len.ensures) in
+          let fits : c.in-Some-host_place.place + c.in-Some-to_region_addr.field-0.0 + c.min-len.result ≤ c.host_len.result = omega (arith, e, o, c.in-Some-to_region_addr.offset-is, q.low, q.high, c.min-len.ensures, c.len.ensures, c.host_len.ensures) in
           absurd (both_ways c.ends_within.result c.if-not-ends_within.true (c.ends_within.ensures.1 fits));
     }

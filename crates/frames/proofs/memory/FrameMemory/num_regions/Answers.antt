@@ -4,8 +4,8 @@ use Rattle.frames.proofs.Framed.{present, present_le, present_more, length_frame
 use Rattle.frames.proofs.memory.FrameMemory.num_regions.Goals as goal
 use Rattle.frames.proofs.memory.FrameMemory.num_regions.Goals.{then-entry-ne0, else-entry-ne0}
 
-pub overflow-add-count : goal.overflow-add-count
-overflow-add-count c =
+pub overflow_add-count : goal.overflow_add-count
+overflow_add-count c =
     let vs = c.args.self.now.entries.now in
     let i = c.loop-entry.entry-index in
     let l = present_le (take i vs) in

@@ -7,8 +7,8 @@ use Rattle.transfers.proofs.Walking.{piece_of, ahead_of, fits_drawn}
 use Rattle.transfers.proofs.walk.Walk.advance.Goals as goal
 use Rattle.transfers.proofs.walk.Walk.advance.Goals.{in-Ok, in-Err}
 
-pub overflow-add-self : goal.overflow-add-self
-overflow-add-self g c = omega (arith, c.requires.2, c.requires.3)
+pub overflow_add-self : goal.overflow_add-self
+overflow_add-self g c = omega (arith, c.requires.2, c.requires.3)
 
 pub returns : goal.returns
 returns g c =
