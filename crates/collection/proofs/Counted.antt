@@ -1,14 +1,12 @@
 -- The makers of a collection, and its highest address.
-use Rattle.std.proofs.Common.{◌≡◌, ℕ, zero, suc, ◌+◌, ◌-◌, ◌^◌, ◌<◌, ◌≤◌, min, max, Bool, true, false, cond, eqb, ltb, List, [], ◌∷◌, map, length, get_or, take, Some, None, Option, sym, refl, ap, ◌∙◌, subst, ⊎_elim, arith, eq-eqb, ne_eqb}
-use Rattle.std.proofs.lemmas.List.{length-map, take_all, take-map}
-use Rattle.std.proofs.lemmas.Bool.{cases_lt, and_parts, lt-ltb, le-ltb}
-use Rattle.std.proofs.lemmas.Bool.Decides.{nat_tests}
+use Rattle.std.proofs.Common.{◌≡◌, ℕ, suc, ◌-◌, ◌<◌, ◌≤◌, min, max, Bool, cond, List, [], ◌∷◌, map, length, get_or, take, Some, Option, sym, refl, ap, ◌∙◌, subst, ⊎_elim, arith, eq-eqb, ne_eqb}
+use Rattle.std.proofs.lemmas.List.{length-map, take_all}
+use Rattle.std.proofs.lemmas.Bool.{cases_lt, lt-ltb, le-ltb}
 use Rattle.region.specs.Ranges.{Range, last_address}
-use Rattle.region.specs.Regions.{Region, range_of, shown, sound}
+use Rattle.region.specs.Regions.{Region, range_of, shown}
 use Rattle.region.specs.Grounds.{KeepsMeaning, Ascending, AllSound, Apart, range_at, region_at}
 use Rattle.table.specs.Questions.{table_fault}
 use Rattle.collection.specs.Collections.{make_fault, edited_fault, highest}
-use Rattle.table.specs.declared.error.GuestRegionCollectionError.{GuestRegionCollectionError}
 use Rattle.table.specs.declared.error.GuestRegionCollectionError.TheVariants.{NoMemoryRegion, NoRoom}
 use Rattle.table.proofs.Tables.{far, asc_tail, region_read}
 use Rattle.table.proofs.Made.{at_range, not_empty}

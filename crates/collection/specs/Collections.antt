@@ -1,5 +1,5 @@
 -- What a collection means, and what its makers answer. Assumes nothing.
-use Rattle.std.specs.Prelude.{ℕ, max, cond, List, [], ◌∷◌, map, length, take, Some, None, Option, ◌==◌, nat_lt}
+use Rattle.std.specs.Prelude.{ℕ, max, cond, List, [], ◌∷◌, map, length, take, Some, Option, ◌==◌, nat_lt}
 use Rattle.region.specs.Ranges.{Range, last_address}
 use Rattle.region.specs.Regions.{Region, range_of, shown}
 use Rattle.region.specs.Grounds.{Ground, KeepsMeaning}

@@ -1,4 +1,6 @@
 // A collection of regions over a table that the caller holds.
+#![tactic(auto)]
+
 pub mod changes;
 pub mod collection;
 pub mod finds;

@@ -1,14 +1,12 @@
 -- The list of present frames: what holds an address, how many, how high, and that it keeps its meaning.
-use Rattle.std.proofs.Common.{◌≡◌, ℕ, zero, suc, ◌+◌, ◌-◌, ◌*◌, ◌/◌, ◌%◌, ◌^◌, ◌<◌, ◌≤◌, min, max, Bool, true, false, cond, not, ◌&&◌, eqb, ltb, leb, List, [], ◌∷◌, ◌++◌, map, length, get_or, take, Some, None, Option, sym, refl, ap, ◌∙◌, subst, subst₂, ⊎_elim, arith, eq-eqb, ne_eqb}
+use Rattle.std.proofs.Common.{◌≡◌, ℕ, zero, suc, ◌+◌, ◌*◌, ◌^◌, ◌<◌, ◌≤◌, max, Bool, true, false, cond, not, eqb, List, [], ◌∷◌, ◌++◌, map, length, get_or, take, Some, None, sym, refl, ap, ◌∙◌, subst, arith, eq-eqb, ne_eqb}
 use Rattle.std.proofs.lemmas.Bool.Decides.{nat_tests}
 use Rattle.std.proofs.lemmas.Bool.{both_ways}
 use Rattle.std.proofs.lemmas.List.{take_more}
-use Rattle.region.specs.Ranges.{Range, covers, last_address}
+use Rattle.region.specs.Ranges.{covers, last_address}
 use Rattle.region.specs.Regions.{Region, range_of, sound}
-use Rattle.region.specs.Grounds.{KeepsMeaning, Apart, Ascending, AllSound, holding, range_at, region_at}
-use Rattle.table.specs.Questions.{first_index, bad_region}
+use Rattle.region.specs.Grounds.{KeepsMeaning, Apart, Ascending, AllSound, holding, range_at}
 use Rattle.table.proofs.Tables.{none_first, next, second}
-use Rattle.table.proofs.Made.{at_range}
 use Rattle.collection.specs.Collections.{highest}
 use Rattle.frames.specs.Frames.{frame, frames, frame_fits, first_outside, well_shaped}
 

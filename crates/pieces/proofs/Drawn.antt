@@ -1,8 +1,7 @@
 -- A draw from a backend that keeps its meaning: the region that is found holds the address and is
 -- sound, so none of the guards refuses, and the piece is the longest.
-use Rattle.std.proofs.Common.{◌≡◌, ℕ, zero, suc, ◌+◌, ◌-◌, ◌^◌, ◌<◌, ◌≤◌, min, Bool, true, false, cond, eqb, leb, ◌⊎◌, List, [], ◌∷◌, map, length, Some, None, Ok, Err, Option, sym, refl, ap, ◌∙◌, subst, inl, inr, ⊎_elim, arith}
+use Rattle.std.proofs.Common.{◌≡◌, ℕ, suc, ◌+◌, ◌-◌, ◌^◌, ◌<◌, ◌≤◌, min, Bool, true, false, cond, eqb, leb, ◌⊎◌, List, [], ◌∷◌, map, length, Some, None, Ok, Err, Option, sym, refl, ap, ◌∙◌, subst, inl, inr, ⊎_elim, arith}
 use Rattle.std.proofs.lemmas.List.{length-map}
-use Rattle.std.proofs.lemmas.Bool.Decides.{nat_tests}
 use Rattle.address.specs.Addresses.{each}
 use Rattle.region.specs.Ranges.{Range, covers, offset_of}
 use Rattle.region.specs.Regions.{Region, range_of, sound}
@@ -14,7 +13,7 @@ use Rattle.backend.specs.Resolution.{place_in}
 use Rattle.backend.proofs.Held.{held, held_range, held_placed}
 use Rattle.pieces.specs.declared.piece.Piece.{Piece}
 use Rattle.pieces.specs.declared.error.GuestMemoryError.TheVariants.{GuestAddressOverflow}
-use Rattle.pieces.specs.Pieces.{drawn, drawn_in, placed_piece, spot, spot_in, Longest}
+use Rattle.pieces.specs.Pieces.{drawn, drawn_in, placed_piece, spot_in, Longest}
 
 -- what is known of a region that was found
 pub record Holder (g : Ground) (a : ℕ) (r : Region) : Type 0 where

@@ -1,8 +1,8 @@
 -- A table that keeps its meaning passes the questions of a table; and room beyond what is of use
 -- changes no answer.
-use Rattle.std.proofs.Common.{◌≡◌, ℕ, suc, ◌+◌, ◌-◌, ◌^◌, ◌<◌, ◌≤◌, min, Bool, true, false, cond, not, ltb, List, [], ◌∷◌, ◌++◌, map, length, get_or, take, drop, Some, None, Ok, Err, vec_items, Option, Vec, sym, refl, ap, ◌∙◌, subst, subst₂, ⊎_elim, arith}
+use Rattle.std.proofs.Common.{◌≡◌, ℕ, suc, ◌+◌, ◌-◌, ◌<◌, ◌≤◌, min, Bool, true, false, cond, not, ltb, List, [], ◌∷◌, ◌++◌, map, length, take, drop, Some, None, Ok, Err, vec_items, Option, Vec, sym, refl, ap, ◌∙◌, arith}
 use Rattle.std.specs.List.{insert, remove}
-use Rattle.std.proofs.lemmas.List.{length-map, take_at, take_all}
+use Rattle.std.proofs.lemmas.List.{length-map, take_at}
 use Rattle.std.proofs.lemmas.List.Edits.{length-insert, length-remove}
 use Rattle.std.proofs.lemmas.Bool.Decides.{nat_tests}
 use Rattle.region.specs.Ranges.{Range}
@@ -11,7 +11,7 @@ use Rattle.region.specs.Regions.{Region, range_of, shown, sound}
 use Rattle.region.specs.Slots.{slot_range, slot_place}
 use Rattle.region.specs.declared.slot.SlotRegion.{SlotRegion}
 use Rattle.regions.specs.Changes.{Insertion, Removal}
-use Rattle.region.specs.Grounds.{KeepsMeaning, Apart, Ascending, AllSound, range_at}
+use Rattle.region.specs.Grounds.{KeepsMeaning, Apart, range_at}
 use Rattle.address.specs.Addresses.{each}
 use Rattle.table.specs.Questions.{first_index, first_no, bad_region, first_unsound, neighbours, pair_fault, table_fault}
 use Rattle.table.specs.Edits.{insert_fault, remove_fault, room_fault, exactly, exact_index, clear, place_in, Inserts, Removes}

@@ -1,6 +1,6 @@
 -- A collection over a whole table has its regions, and is made where they pass their questions.
-use Rattle.std.proofs.Common.{◌≡◌, ℕ, ◌≤◌, Bool, true, false, cond, eqb, List, map, length, take, Some, None, Ok, Err, Option, Result, sym, refl, ap, ◌∙◌, subst₂, arith}
-use Rattle.std.proofs.lemmas.List.{take_all, length-map}
+use Rattle.std.proofs.Common.{◌≡◌, ℕ, Bool, true, false, cond, eqb, List, length, take, Some, None, Option, refl, ap, ◌∙◌, subst₂, arith}
+use Rattle.std.proofs.lemmas.List.{take_all}
 use Rattle.region.specs.Regions.{Region}
 use Rattle.region.specs.declared.slot.SlotRegion.{SlotRegion}
 use Rattle.table.specs.Questions.{table_fault}

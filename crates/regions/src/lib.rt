@@ -1,4 +1,6 @@
 // The regions of the box with one more or one less, in a table of their own.
+#![tactic(auto)]
+
 ghost use Rattle.std.specs.Prelude.{◌≡◌, min, map, length, IfOk, None, vec_len};
 ghost use Rattle.region.specs.Regions.{shown};
 ghost use Rattle.region.specs.Slots.{slot_range, slot_place};

@@ -1,5 +1,5 @@
 -- What insertion and removal answer, by the facts that the code has at each way out.
-use Rattle.std.proofs.Common.{◌≡◌, ℕ, ◌+◌, ◌-◌, ◌<◌, ◌≤◌, Bool, true, false, cond, ◌&&◌, eqb, ltb, List, [], ◌∷◌, ◌++◌, map, length, get_or, take, drop, Some, None, Ok, Err, Option, sym, refl, ap, ◌∙◌, subst, subst₂, arith}
+use Rattle.std.proofs.Common.{◌≡◌, ℕ, ◌+◌, ◌-◌, ◌<◌, ◌≤◌, Bool, true, false, cond, ltb, List, ◌++◌, map, length, get_or, take, drop, Some, None, Ok, Err, Option, sym, refl, ap, ◌∙◌, subst, arith}
 use Rattle.std.specs.List.{insert, remove}
 use Rattle.std.proofs.lemmas.List.Edits.{length-insert, length-remove}
 use Rattle.std.proofs.lemmas.List.{length-map, take_at}
@@ -9,8 +9,7 @@ use Rattle.region.specs.Ranges.{Range}
 use Rattle.region.specs.Regions.{Region, range_of, shown, sound}
 use Rattle.region.specs.Grounds.{KeepsMeaning, Apart, Ascending, range_at, region_at}
 use Rattle.table.specs.Questions.{holder}
-use Rattle.table.specs.Edits.{clear, place_in, insert_fault, remove_fault, room_fault, exactly, exact_index, Fitted, Inserts, Removes}
-use Rattle.table.specs.declared.error.GuestRegionCollectionError.{GuestRegionCollectionError}
+use Rattle.table.specs.Edits.{clear, insert_fault, remove_fault, room_fault, exactly, exact_index, Fitted, Inserts, Removes}
 use Rattle.table.specs.declared.error.GuestRegionCollectionError.TheVariants.{NoMemoryRegion, MemoryRegionOverlap, BadRegion, NoRoom}
 use Rattle.table.proofs.Tables.{far, first_at, first_none, found_at}
 use Rattle.table.proofs.Made.{ranges, at_range, not_empty}

@@ -1,15 +1,14 @@
 -- Insertion and removal keep what holds of each entry and of each pair of neighbours.
-use Rattle.std.proofs.Common.{◌≡◌, ℕ, zero, suc, ◌+◌, ◌-◌, ◌^◌, ◌<◌, ◌≤◌, Bool, true, false, List, [], ◌∷◌, ◌++◌, map, length, get_or, take, drop, Some, None, Option, sym, refl, ap, ◌∙◌, subst, subst₂, ⊎_elim, arith}
+use Rattle.std.proofs.Common.{◌≡◌, ℕ, ◌+◌, ◌-◌, ◌<◌, ◌≤◌, true, List, map, length, get_or, None, sym, ap, ◌∙◌, subst, subst₂, ⊎_elim, arith}
 use mathlib.Core.List.{map-append}
 use Rattle.std.specs.List.{insert, remove}
 use Rattle.std.proofs.lemmas.List.Edits.{length-insert, get_or-insert_below, get_or-insert_at, get_or-insert_above, length-remove, get_or-remove_below, get_or-remove_above}
-use Rattle.std.proofs.lemmas.List.{length-map, take-map, drop-map, take_at, get_or-map}
+use Rattle.std.proofs.lemmas.List.{length-map, take-map, drop-map}
 use Rattle.std.proofs.lemmas.Bool.{cases_lt, cases_order}
 use Rattle.region.specs.Ranges.{Range}
-use Rattle.region.specs.Regions.{Region, range_of, shown, sound}
-use Rattle.region.specs.Grounds.{KeepsMeaning, Ascending, AllSound, Apart, range_at, region_at}
+use Rattle.region.specs.Regions.{Region, range_of, sound}
+use Rattle.region.specs.Grounds.{KeepsMeaning, Ascending, Apart, range_at}
 use Rattle.table.proofs.Tables.{far}
-use Rattle.table.proofs.Made.{ranges}
 
 module _ {X : Type 0} (d : X) (xs : List X) (i : ℕ) (y : X) (le : i ≤ length xs) where
   pub each_inserted : (P : X → Type 0) → ((k : ℕ) → k < length xs → P (get_or xs k d)) → P y → (k : ℕ) → k < length xs + 1 → P (get_or (insert xs i y) k d)

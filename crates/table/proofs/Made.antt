@@ -1,15 +1,14 @@
 -- A table that no question refuses keeps its meaning as a backend.
-use Rattle.std.proofs.Common.{◌≡◌, ℕ, zero, suc, ◌+◌, ◌-◌, ◌^◌, ◌<◌, ◌≤◌, min, max, Bool, true, false, cond, eqb, ltb, List, [], ◌∷◌, map, length, get_or, take, Some, None, Option, sym, refl, ap, ◌∙◌, subst, ⊎_elim, arith, eq-eqb, ne_eqb}
-use Rattle.std.proofs.lemmas.List.{length-map, take_all, take-map}
-use Rattle.std.proofs.lemmas.Bool.{cases_lt, and_parts, lt-ltb, le-ltb}
+use Rattle.std.proofs.Common.{◌≡◌, ℕ, zero, suc, ◌^◌, ◌<◌, true, List, [], ◌∷◌, map, Some, None, Option, sym, refl, ap, ◌∙◌, subst, arith}
+use Rattle.std.proofs.lemmas.List.{length-map}
+use Rattle.std.proofs.lemmas.Bool.{and_parts}
 use Rattle.std.proofs.lemmas.Bool.Decides.{nat_tests}
-use Rattle.region.specs.Ranges.{Range, last_address}
+use Rattle.region.specs.Ranges.{Range}
 use Rattle.region.specs.Regions.{Region, range_of, shown, sound}
-use Rattle.region.specs.Grounds.{KeepsMeaning, Ascending, AllSound, Apart, range_at, region_at}
+use Rattle.region.specs.Grounds.{KeepsMeaning, Ascending, range_at, region_at}
 use Rattle.table.specs.Questions.{first_no, first_unsound, neighbours, bad_region, table_fault}
 use Rattle.table.specs.declared.error.GuestRegionCollectionError.{GuestRegionCollectionError}
-use Rattle.table.specs.declared.error.GuestRegionCollectionError.TheVariants.{NoMemoryRegion, NoRoom}
-use Rattle.table.proofs.Tables.{all_sound, ascends, far, asc_tail, first_no_none, region_read}
+use Rattle.table.proofs.Tables.{all_sound, ascends, first_no_none}
 
 -- the ranges of regions are those that their type shows
 pub ranges : {R : Type 0} (range : R → Range) (place : R → Option ℕ) (xs : List R) → map range_of (map (shown range place) xs) ≡ map range xs

@@ -4,7 +4,7 @@ use Rattle.address.specs.Addresses.{each}
 use Rattle.region.specs.Ranges.{Range, covers}
 use Rattle.region.specs.Regions.{Region, range_of, sound}
 use Rattle.table.specs.declared.error.GuestRegionCollectionError.{GuestRegionCollectionError}
-use Rattle.table.specs.declared.error.GuestRegionCollectionError.TheVariants.{NoMemoryRegion, UnsortedMemoryRegions, MemoryRegionOverlap, BadRegion, NoRoom}
+use Rattle.table.specs.declared.error.GuestRegionCollectionError.TheVariants.{UnsortedMemoryRegions, MemoryRegionOverlap, BadRegion}
 
 -- the first of two refusals, where there is one
 abbrev pub first_no : Option GuestRegionCollectionError → Option GuestRegionCollectionError → Option GuestRegionCollectionError

@@ -1,5 +1,5 @@
 -- The collection is made from the whole table, and the new regions are what is left in the second one.
-use Rattle.std.proofs.Common.{◌≡◌, ℕ, ◌+◌, min, List, map, length, take, drop, Ok, Err, vec_items, vec_len, sym, refl, ◌∙◌, arith}
+use Rattle.std.proofs.Common.{◌≡◌, ℕ, min, List, map, length, drop, Ok, Err, vec_len, sym, refl, ◌∙◌}
 use Rattle.std.proofs.lemmas.List.{length-map}
 use Rattle.region.specs.Regions.{shown}
 use Rattle.region.specs.Slots.{slot_range, slot_place}

@@ -1,5 +1,5 @@
 -- In a backend that keeps its meaning the guards do not refuse.
-use Rattle.std.proofs.Common.{◌≡◌, ℕ, ◌+◌, ◌-◌, ◌≤◌, sym, ◌∙◌, arith}
+use Rattle.std.proofs.Common.{◌+◌, ◌≤◌, sym, ◌∙◌, arith}
 use Rattle.std.proofs.lemmas.Bool.{both_ways}
 use Rattle.region.specs.Regions.{Region, shown}
 use Rattle.region.specs.Slots.{slot_range, slot_place}

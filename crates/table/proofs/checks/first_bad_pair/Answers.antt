@@ -1,7 +1,5 @@
-use Rattle.std.proofs.Common.{◌≡◌, ℕ, ◌+◌, ◌-◌, ◌<◌, map, length, Some, None, sym, refl, ap, ◌∙◌, subst, arith}
+use Rattle.std.proofs.Common.{◌≡◌, ◌+◌, ◌-◌, ◌<◌, map, length, sym, arith}
 use Rattle.std.proofs.lemmas.List.{length-map}
-use Rattle.region.specs.Grounds.{range_at}
-use Rattle.table.specs.Questions.{pair_fault}
 use Rattle.table.proofs.Tables.{range_read, bad_pair_at, no_bad_pair, paired_more}
 use Rattle.table.proofs.checks.first_bad_pair.Goals as goal
 

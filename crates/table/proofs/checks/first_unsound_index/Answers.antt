@@ -1,7 +1,6 @@
-use Rattle.std.proofs.Common.{◌≡◌, ℕ, ◌<◌, Bool, true, false, not, map, length, sym, refl, ap, ◌∙◌, subst, arith, below_more}
+use Rattle.std.proofs.Common.{not, map, sym, ap, ◌∙◌, arith, below_more}
 use Rattle.std.proofs.lemmas.List.{length-map}
 use Rattle.region.specs.Regions.{Region, shown, sound}
-use Rattle.region.specs.Grounds.{region_at}
 use Rattle.table.proofs.Tables.{region_read, first_at, first_none}
 use Rattle.table.proofs.checks.first_unsound_index.Goals as goal
 

@@ -1,7 +1,7 @@
-use Rattle.std.proofs.Common.{◌≡◌, ℕ, ◌+◌, ◌<◌, ◌≤◌, map, length, sym, ap, ◌∙◌, subst, arith, below_more}
+use Rattle.std.proofs.Common.{map, length, sym, ap, ◌∙◌, subst, arith, below_more}
 use Rattle.std.proofs.lemmas.List.{length-map}
 use Rattle.region.specs.Ranges.{Range}
-use Rattle.region.specs.Grounds.{Apart, range_at}
+use Rattle.region.specs.Grounds.{Apart}
 use Rattle.table.specs.Edits.{clashes}
 use Rattle.table.proofs.Tables.{range_read}
 use Rattle.table.proofs.Places.{fits, shared, clear_not}

@@ -1,5 +1,4 @@
-use Rattle.std.proofs.Common.{◌≡◌, ℕ, ◌<◌, Bool, true, false, [], map, length, Some, None, Option, sym, refl, ap, ◌∙◌, subst, arith}
-use Rattle.region.specs.Ranges.{Range}
+use Rattle.std.proofs.Common.{◌≡◌, ℕ, ◌<◌, false, [], map, length, Some, None, Option, sym, ap, ◌∙◌, subst, arith}
 use Rattle.region.specs.Grounds.{range_at}
 use Rattle.table.specs.Edits.{exactly}
 use Rattle.table.proofs.Tables.{range_read}

@@ -1,4 +1,4 @@
-use Rattle.std.proofs.Common.{◌≡◌, ℕ, ◌+◌, ◌<◌, ◌≤◌, sym, refl, ◌∙◌, arith, rules}
+use Rattle.std.proofs.Common.{sym, refl, ◌∙◌, arith, rules}
 use Rattle.table.proofs.Changed.{no_room, unsound, overlapping, insertion}
 use Rattle.region.specs.Regions.{shown}
 use Rattle.table.proofs.Made.{not_empty}

@@ -1,4 +1,4 @@
-use Rattle.std.proofs.Common.{◌≡◌, sym, refl, arith, rules}
+use Rattle.std.proofs.Common.{sym, refl, arith, rules}
 use Rattle.table.proofs.Changed.{no_region, no_place, removal}
 use Rattle.table.proofs.edits.remove.Goals as goal
 

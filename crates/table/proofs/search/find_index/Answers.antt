@@ -1,5 +1,5 @@
 -- Each turn looks at the middle range: its start and its end tell which half is left.
-use Rattle.std.proofs.Common.{ℕ, ◌+◌, ◌-◌, ◌/◌, ◌<◌, ◌≤◌, map, length, sym, arith}
+use Rattle.std.proofs.Common.{ℕ, ◌+◌, ◌-◌, ◌/◌, ◌<◌, map, length, sym, arith}
 use Rattle.std.proofs.lemmas.List.{length-map}
 use Rattle.table.proofs.Tables.{start_read, len_read, above, below, found_at, found_none}
 use Rattle.table.proofs.search.find_index.Goals as goal

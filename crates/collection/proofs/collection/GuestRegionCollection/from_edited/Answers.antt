@@ -1,6 +1,6 @@
-use Rattle.std.proofs.Common.{◌≡◌, ℕ, ◌-◌, ◌<◌, List, map, length, take, sym, refl, ap, ◌∙◌, subst, arith, rules}
+use Rattle.std.proofs.Common.{◌≡◌, ◌-◌, map, take, sym, refl, ap, ◌∙◌, arith}
 use Rattle.std.proofs.lemmas.List.{length-map, take-map}
-use Rattle.region.specs.Regions.{Region, shown}
+use Rattle.region.specs.Regions.{shown}
 use Rattle.table.specs.Questions.{table_fault}
 use Rattle.table.proofs.Made.{lawful_made}
 use Rattle.collection.proofs.Counted.{edited_none, edited_some}

@@ -1,4 +1,4 @@
-use Rattle.std.proofs.Common.{◌≡◌, ℕ, ◌<◌, List, map, length, sym, ap, ◌∙◌, subst, arith, rules}
+use Rattle.std.proofs.Common.{◌≡◌, ◌<◌, List, map, length, sym, ap, ◌∙◌, subst, rules}
 use Rattle.region.specs.Regions.{shown}
 use Rattle.region.specs.Grounds.{KeepsMeaning}
 use Rattle.collection.specs.Collections.{highest}

@@ -1,4 +1,4 @@
-use Rattle.std.proofs.Common.{◌≡◌, ℕ, ◌+◌, ◌-◌, ◌*◌, ◌/◌, ◌%◌, ◌<◌, ◌≤◌, Bool, cond, get_or, Some, None, sym, ap, ◌∙◌, arith, rules, eq-eqb, ne_eqb}
+use Rattle.std.proofs.Common.{◌≡◌, ℕ, ◌+◌, ◌-◌, ◌*◌, ◌/◌, ◌%◌, Bool, cond, get_or, Some, None, sym, ap, ◌∙◌, arith, rules, eq-eqb, ne_eqb}
 use Rattle.frames.specs.Frames.{frame}
 use Rattle.frames.proofs.Framed.{below_frames, past_frames, in_frames}
 use Rattle.frames.proofs.frames.FrameMemoryGuestMemoryBackend.region_at.Goals as goal

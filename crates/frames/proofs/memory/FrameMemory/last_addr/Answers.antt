@@ -1,4 +1,4 @@
-use Rattle.std.proofs.Common.{◌≡◌, ℕ, ◌+◌, ◌-◌, ◌*◌, ◌^◌, ◌≤◌, length, sym, ◌∙◌, arith, rules}
+use Rattle.std.proofs.Common.{◌+◌, ◌-◌, ◌*◌, ◌^◌, ◌≤◌, length, sym, arith}
 use Rattle.frames.proofs.Framed.{highest_none, highest_frame, ends_by_top}
 use Rattle.frames.proofs.memory.FrameMemory.last_addr.Goals as goal
 

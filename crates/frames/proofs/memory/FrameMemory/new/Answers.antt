@@ -1,4 +1,4 @@
-use Rattle.std.proofs.Common.{◌≡◌, ℕ, Bool, cond, Some, None, Option, sym, refl, ap, ◌∙◌, arith}
+use Rattle.std.proofs.Common.{Bool, cond, Some, sym, refl, ap, ◌∙◌, arith}
 use Rattle.table.specs.Questions.{bad_region}
 use Rattle.frames.specs.Frames.{first_outside}
 use Rattle.table.specs.declared.error.GuestRegionCollectionError.TheVariants.{BadRegion}

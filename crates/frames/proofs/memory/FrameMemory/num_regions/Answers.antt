@@ -1,4 +1,4 @@
-use Rattle.std.proofs.Common.{◌≡◌, ℕ, ◌+◌, ◌<◌, ◌≤◌, Bool, cond, length, get_or, take, sym, ap, ◌∙◌, arith, rules, eq-eqb, ne_eqb}
+use Rattle.std.proofs.Common.{◌≡◌, ℕ, ◌<◌, Bool, cond, length, get_or, take, sym, ap, ◌∙◌, arith, rules, eq-eqb, ne_eqb}
 use Rattle.std.proofs.lemmas.List.{take_all, length-take-le}
 use Rattle.frames.proofs.Framed.{present, present_le, present_more, length_frames}
 use Rattle.frames.proofs.memory.FrameMemory.num_regions.Goals as goal
