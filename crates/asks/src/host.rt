@@ -39,7 +39,7 @@ pub fn bytes<M: GuestMemoryBackend>(
     place: u64,
     count: u64,
 ) -> Result<Answer, AllocError>
-    ensures { IfOk result (λ x. Shown (piece_bytes (M.GuestMemoryBackend.ground memory.now).host host.now (record { place = place; len = count })) x) }
+    ensures { IfOk result (λ x. Shown (piece_bytes (M.GuestMemoryBackend.meant memory.now).host host.now (record { place = place; len = count })) x) }
 {
     match bytes_of(memory, host, Piece { place, len: count }) {
         Ok(part) => Ok(Answer::Bytes(Vec::from_slice(heap, part)?)),

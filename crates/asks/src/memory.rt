@@ -13,7 +13,7 @@ use std::alloc::{AllocError, Global};
 
 /// The region that holds an address.
 pub fn find<M: GuestMemoryBackend>(memory: &M, address: u64) -> Answer
-    ensures { M.GuestMemoryBackend.lawful memory.now → result ≡ found (M.GuestMemoryBackend.ground memory.now) address }
+    ensures { M.GuestMemoryBackend.lawful memory.now → result ≡ found (M.GuestMemoryBackend.meant memory.now) address }
 {
     match memory.region_at(GuestAddress(address)) {
         Some(region) => Answer::Region(
@@ -34,7 +34,7 @@ fn draw_all<M: GuestMemoryBackend>(
     address: u64,
     count: u64,
 ) -> Result<(Vec<Span>, Option<Refusal>), AllocError>
-    ensures { IfOk result (λ p. (M.GuestMemoryBackend.lawful memory.now → Draws (M.GuestMemoryBackend.ground memory.now) address count p.0.items p.1)) }
+    ensures { IfOk result (λ p. (M.GuestMemoryBackend.lawful memory.now → Draws (M.GuestMemoryBackend.meant memory.now) address count p.0.items p.1)) }
 {
     let mut cursor = PhysicalCursor::new(GuestAddress(address), count);
     let mut pieces = Vec::new(heap);
@@ -62,7 +62,7 @@ pub fn slices<M: GuestMemoryBackend>(
     count: u64,
     access: u64,
 ) -> Result<Answer, AllocError>
-    ensures { IfOk result (λ x. (M.GuestMemoryBackend.lawful memory.now → Sliced (M.GuestMemoryBackend.ground memory.now) address count access x)) }
+    ensures { IfOk result (λ x. (M.GuestMemoryBackend.lawful memory.now → Sliced (M.GuestMemoryBackend.meant memory.now) address count access x)) }
 {
     if let Err(error) = Permissions::from_repr(access) {
         return Ok(Answer::Refused(error.into()));

@@ -8,7 +8,7 @@ use region::region::{AddressRange, GuestMemoryRegion};
 use region::slot::{SlotRegion, slot_of};
 
 impl<'a, R: GuestMemoryRegion> GuestMemoryBackend for GuestRegionCollection<'a, R> {
-    ghost ground = { λ c. ground_of R.AddressRange.range R.GuestMemoryRegion.place c };
+    ghost meant = { λ c. ground_of R.AddressRange.range R.GuestMemoryRegion.place c };
 
     ghost lawful = { λ c. Lawful R.AddressRange.range R.GuestMemoryRegion.place c };
 

@@ -98,7 +98,7 @@ impl<'a> FrameMemory<'a> {
 }
 
 impl<'a> GuestMemoryBackend for FrameMemory<'a> {
-    ghost ground = { frames_ground };
+    ghost meant = { frames_ground };
 
     ghost lawful = { LawfulFrames };
 

@@ -13,7 +13,7 @@ pub fn bytes_of<'a, M: GuestMemoryBackend>(
     host: &'a [u8],
     piece: Piece,
 ) -> Result<&'a [u8], GuestMemoryError>
-    ensures { seen result ≡ piece_bytes (M.GuestMemoryBackend.ground memory.now).host host.now piece }
+    ensures { seen result ≡ piece_bytes (M.GuestMemoryBackend.meant memory.now).host host.now piece }
 {
     if host.len() as u64 != memory.host_len() {
         return Err(GuestMemoryError::BadHost);

@@ -24,8 +24,8 @@ fn piece_at<M: GuestMemoryBackend>(
     count: u64,
 ) -> Result<Piece, GuestMemoryError>
     requires { 1 ≤ count }
-    ensures within { IfOk result (λ p. Within (M.GuestMemoryBackend.ground memory.now).host count p) }
-    ensures exact { M.GuestMemoryBackend.lawful memory.now → some_piece result ≡ drawn (M.GuestMemoryBackend.ground memory.now) addr.0 count }
+    ensures within { IfOk result (λ p. Within (M.GuestMemoryBackend.meant memory.now).host count p) }
+    ensures exact { M.GuestMemoryBackend.lawful memory.now → some_piece result ≡ drawn (M.GuestMemoryBackend.meant memory.now) addr.0 count }
 {
     let Some(region) = memory.region_at(addr) else {
         return Err(GuestMemoryError::InvalidGuestAddress(addr));
@@ -64,9 +64,9 @@ impl PhysicalCursor {
         memory: &M,
     ) -> Result<Option<Piece>, GuestMemoryError>
         ensures cursor { self.new ≡ left_after self.old result }
-        ensures within { IfOk result (λ o. IfSome o (λ p. Within (M.GuestMemoryBackend.ground memory.now).host self.old.count p)) }
-        ensures answer { M.GuestMemoryBackend.lawful memory.now → result ≡ drawn (M.GuestMemoryBackend.ground memory.now) self.old.addr.0 self.old.count }
-        ensures longest { M.GuestMemoryBackend.lawful memory.now → IfOk result (λ o. IfSome o (λ p. Longest (M.GuestMemoryBackend.ground memory.now) self.old.addr.0 self.old.count p)) }
+        ensures within { IfOk result (λ o. IfSome o (λ p. Within (M.GuestMemoryBackend.meant memory.now).host self.old.count p)) }
+        ensures answer { M.GuestMemoryBackend.lawful memory.now → result ≡ drawn (M.GuestMemoryBackend.meant memory.now) self.old.addr.0 self.old.count }
+        ensures longest { M.GuestMemoryBackend.lawful memory.now → IfOk result (λ o. IfSome o (λ p. Longest (M.GuestMemoryBackend.meant memory.now) self.old.addr.0 self.old.count p)) }
     {
         if self.count == 0 {
             return Ok(None);

@@ -16,10 +16,10 @@ use std::alloc::{AllocError, Global};
 /// A backend that also tells how many regions it has and where they end.
 pub trait Surveyed: GuestMemoryBackend {
     fn count(&self) -> usize
-        ensures { result ≡ length (Self.GuestMemoryBackend.ground self.now).regions };
+        ensures { result ≡ length (Self.GuestMemoryBackend.meant self.now).regions };
 
     fn last(&self) -> GuestAddress
-        ensures { Self.GuestMemoryBackend.lawful self.now → result.0 ≡ highest (Self.GuestMemoryBackend.ground self.now).regions };
+        ensures { Self.GuestMemoryBackend.lawful self.now → result.0 ≡ highest (Self.GuestMemoryBackend.meant self.now).regions };
 }
 
 impl<'a, R: GuestMemoryRegion> Surveyed for GuestRegionCollection<'a, R> {
@@ -48,7 +48,7 @@ pub fn ask_memory<M: Surveyed>(
     memory: &M,
     question: Question,
 ) -> Result<Answer, AllocError>
-    ensures { IfOk result (λ x. (M.GuestMemoryBackend.lawful memory.now → Answers (M.GuestMemoryBackend.ground memory.now) question x)) }
+    ensures { IfOk result (λ x. (M.GuestMemoryBackend.lawful memory.now → Answers (M.GuestMemoryBackend.meant memory.now) question x)) }
 {
     match question {
         Question::Count => Ok(Answer::Number(memory.count() as u64)),

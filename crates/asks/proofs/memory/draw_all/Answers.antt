@@ -7,7 +7,7 @@ use Rattle.asks.proofs.memory.draw_all.Goals as goal
 
 pub returns-in_default : goal.returns-in_default
 returns-in_default g c h =
-    let gr = g.M.GuestMemoryBackend.ground c.args.memory.now in
+    let gr = g.M.GuestMemoryBackend.meant c.args.memory.now in
     let a = c.loop-drawn.cursor.addr.0 in
     let n = c.loop-drawn.cursor.count in
     goes_none gr c.args.address c.args.count a n (vec_items c.loop-drawn.pieces) (c.loop-drawn.invariant h)
@@ -15,7 +15,7 @@ returns-in_default g c h =
 
 pub loop-drawn-preserved : goal.loop-drawn-preserved
 loop-drawn-preserved g c h =
-    let gr = g.M.GuestMemoryBackend.ground c.args.memory.now in
+    let gr = g.M.GuestMemoryBackend.meant c.args.memory.now in
     let a = c.loop-drawn.cursor.addr.0 in
     let n = c.loop-drawn.cursor.count in
     let e = ap (λ (o : Option Piece). Ok o) (sym c.in-Some.is) ∙ c.in-Ok.ensures.answer h in
@@ -25,5 +25,5 @@ loop-drawn-preserved g c h =
 
 pub returns-in-Err : goal.returns-in-Err
 returns-in-Err g c h =
-    let gr = g.M.GuestMemoryBackend.ground c.args.memory.now in
+    let gr = g.M.GuestMemoryBackend.meant c.args.memory.now in
     goes_err gr c.args.address c.args.count c.loop-drawn.cursor.addr.0 c.loop-drawn.cursor.count (vec_items c.loop-drawn.pieces) c.in-Err.error c.into.result (c.loop-drawn.invariant h) (c.in-Err.ensures.answer h) c.into.ensures

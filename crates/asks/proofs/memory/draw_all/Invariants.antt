@@ -9,8 +9,8 @@ abbrev pub invariant-loop-drawn : goal.invariant-loop-drawn
 invariant-loop-drawn g l =
     g.M.GuestMemoryBackend.lawful l.memory →
     (ps : List Span) (end : Option Refusal) →
-    Draws (g.M.GuestMemoryBackend.ground l.memory) l.cursor.addr.0 l.cursor.count ps end →
-    Draws (g.M.GuestMemoryBackend.ground l.memory) l.address l.count (vec_items l.pieces ++ ps) end
+    Draws (g.M.GuestMemoryBackend.meant l.memory) l.cursor.addr.0 l.cursor.count ps end →
+    Draws (g.M.GuestMemoryBackend.meant l.memory) l.address l.count (vec_items l.pieces ++ ps) end
 
 abbrev pub decreases-loop-drawn : goal.decreases-loop-drawn
 decreases-loop-drawn g l = l.cursor.count

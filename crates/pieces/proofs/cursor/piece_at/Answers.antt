@@ -13,7 +13,7 @@ returns-in_default-to_region_addr g c =
       exact = λ h.
           let b = c.args.memory.now in
           let r = shown slot_range slot_place c.in-Some.region in
-          let q = found (g.M.GuestMemoryBackend.ground b) (g.M.GuestMemoryBackend.keeps b h) c.args.addr.0 r (c.in-Some.ensures h) in
+          let q = found (g.M.GuestMemoryBackend.meant b) (g.M.GuestMemoryBackend.keeps b h) c.args.addr.0 r (c.in-Some.ensures h) in
           absurd (inside r c.args.addr.0 q.cover c.in_default-to_region_addr.ensures);
     }
 
@@ -24,9 +24,9 @@ returns-then-not-ends_within g c =
       exact = λ h.
           let b = c.args.memory.now in
           let r : Region = shown slot_range slot_place c.in-Some.region in
-          let q = found (g.M.GuestMemoryBackend.ground b) (g.M.GuestMemoryBackend.keeps b h) c.args.addr.0 r (c.in-Some.ensures h) in
+          let q = found (g.M.GuestMemoryBackend.meant b) (g.M.GuestMemoryBackend.keeps b h) c.args.addr.0 r (c.in-Some.ensures h) in
           let o = offset_is r c.args.addr.0 c.in-Some-to_region_addr.field-0.0 q.cover c.in-Some-to_region_addr.ensures in
-          let e = ends (g.M.GuestMemoryBackend.ground b) c.args.addr.0 r q c.in-Some-host_place.place (sym c.host_place.ensures ∙ c.in-Some-host_place.is) in
+          let e = ends (g.M.GuestMemoryBackend.meant b) c.args.addr.0 r q c.in-Some-host_place.place (sym c.host_place.ensures ∙ c.in-Some-host_place.is) in
           let fits : c.in-Some-host_place.place + c.in-Some-to_region_addr.field-0.0 + c.min-len.result ≤ c.host_len.result = omega (arith, e, o, c.in-Some-to_region_addr.offset-is, q.low, q.high, c.min-len.ensures, c.len.ensures, c.host_len.ensures) in
           absurd (both_ways c.ends_within.result c.if-not-ends_within.true (c.ends_within.ensures.1 fits));
     }
