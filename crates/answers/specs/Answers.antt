@@ -1,4 +1,4 @@
--- The line that is written for an answer: what each `ghost shown` of src/lib.rt cites. Assumes nothing.
+-- The line that is written for an answer: what each `ghost output` of src/lib.rt cites. Assumes nothing.
 use Rattle.std.specs.Prelude.{ℕ, Bool, cond, List, [], ◌∷◌, ◌++◌, map, Some, None, vec_items, codes, decimal, Option}
 use Rattle.std.specs.List.{concat}
 use Rattle.numerals.specs.Hexes.{hex, bytes}

@@ -1,4 +1,6 @@
 // What a command is answered, and the line that is written for it.
+#![tactic(auto)]
+
 ghost use Rattle.answers.specs.Answers.{each, line, piece, place, refused};
 ghost use Rattle.std.specs.Prelude.{Some};
 ghost use Rattle.std.specs.Fmt.{WritesOnOk};
@@ -73,7 +75,7 @@ impl fmt::Display for Span {
 }
 
 fn put_row<W: fmt::Write>(row: &[Span], f: &mut fmt::Formatter<W>) -> fmt::Result
-    ensures { WritesOnOk write_str_gives f.old result (each piece row.now) f.new }
+    ensures { WritesOnOk W.write_str_gives f.old result (each piece row.now) f.new }
 {
     for span in row {
         write!(f, " {span}")?;

@@ -1,4 +1,6 @@
 // What a line of a script asks for.
+#![tactic(auto)]
+
 ghost use Rattle.commands.specs.Commands.{Tells};
 ghost use Rattle.std.specs.Prelude.{IfOk};
 

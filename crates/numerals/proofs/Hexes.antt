@@ -1,5 +1,5 @@
 -- The digits of a number, one by one from the front.
-use Rattle.std.proofs.Common.{◌≡◌, ℕ, zero, suc, ◌+◌, ◌/◌, ◌%◌, ◌<◌, ◌≤◌, Bool, cond, List, [], ◌∷◌, ◌++◌, map, length, sym, refl, ap, ◌∙◌, arith, lit<, length-append, ne_eqb}
+use Rattle.std.proofs.Common.{◌≡◌, ℕ, zero, suc, ◌/◌, ◌%◌, ◌<◌, ◌≤◌, Bool, cond, List, [], ◌∷◌, ◌++◌, map, length, sym, refl, ap, ◌∙◌, arith, lit<, length-append, ne_eqb}
 use mathlib.Core.List.{map-append}
 use native.Mathlib.Nat.{div-eq_of_lt}
 use Rattle.std.specs.Int.Digits.{digits_of}

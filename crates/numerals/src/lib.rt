@@ -1,4 +1,6 @@
 // Numbers and bytes as text: how they are read and how they are written.
+#![tactic(auto)]
+
 ghost use Rattle.std.specs.Prelude.{◌≡◌, ℕ, ◌^◌, ◌<◌, ◌≤◌, [], ◌∷◌, Some};
 ghost use Rattle.numerals.specs.Hexes.{figure, figures, hex, pair, pairs, bytes};
 ghost use Rattle.numerals.specs.Numbers.{IsNumber, number};
@@ -47,7 +49,7 @@ struct Figures(u64);
 /// Writes the figure of a digit.
 fn put_figure<W: fmt::Write>(digit: u8, f: &mut fmt::Formatter<W>) -> fmt::Result
     requires { digit < 16 }
-    ensures { WritesOnOk write_str_gives f.old result (figure digit ∷ []) f.new }
+    ensures { WritesOnOk W.write_str_gives f.old result (figure digit ∷ []) f.new }
 {
     let figure = if digit < 10 {
         b'0' + digit
@@ -58,7 +60,7 @@ fn put_figure<W: fmt::Write>(digit: u8, f: &mut fmt::Formatter<W>) -> fmt::Resul
 }
 
 fn put_figures<W: fmt::Write>(n: u64, f: &mut fmt::Formatter<W>) -> fmt::Result
-    ensures { WritesOnOk write_str_gives f.old result (figures n) f.new }
+    ensures { WritesOnOk W.write_str_gives f.old result (figures n) f.new }
 {
     if n >= 16 {
         put_figures(n / 16, f)?;
@@ -67,14 +69,14 @@ fn put_figures<W: fmt::Write>(n: u64, f: &mut fmt::Formatter<W>) -> fmt::Result
 }
 
 fn put_pair<W: fmt::Write>(byte: u8, f: &mut fmt::Formatter<W>) -> fmt::Result
-    ensures { WritesOnOk write_str_gives f.old result (pair byte) f.new }
+    ensures { WritesOnOk W.write_str_gives f.old result (pair byte) f.new }
 {
     put_figure(byte / 16, f)?;
     put_figure(byte % 16, f)
 }
 
 fn put_pairs<W: fmt::Write>(bytes: &[u8], f: &mut fmt::Formatter<W>) -> fmt::Result
-    ensures { WritesOnOk write_str_gives f.old result (pairs bytes.now) f.new }
+    ensures { WritesOnOk W.write_str_gives f.old result (pairs bytes.now) f.new }
 {
     for b in bytes {
         put_pair(*b, f)?;

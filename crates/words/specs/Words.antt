@@ -1,6 +1,6 @@
 -- A line and its words: what the clauses of src/lib.rt cite. Assumes nothing.
 use Rattle.std.specs.Prelude.{◌≡◌, ℕ, Bool, true, false, cond, ◌&&◌, ◌||◌, List, [], ◌∷◌, ◌==◌, ◌≢◌}
-use Rattle.std.specs.List.{join_with_byte, AllByRecursion as All}
+use Rattle.std.specs.List.{join_with_byte, AllByRecursion}
 
 -- the byte c before the first word
 abbrev pub onto : ℕ → List (List ℕ) → List (List ℕ)
@@ -19,7 +19,7 @@ Unbroken (c ∷ cs) = (c ≢ 32) × Unbroken cs
 
 -- the line has these words, one blank between each two, and none has a blank in it
 abbrev pub Spaced : List ℕ → List (List ℕ) → Type 0
-Spaced line ws = (join_with_byte 32 ws ≡ line) × All Unbroken ws
+Spaced line ws = (join_with_byte 32 ws ≡ line) × AllByRecursion Unbroken ws
 
 -- nothing but blanks
 abbrev pub blank : List ℕ → Bool

@@ -1,4 +1,6 @@
 // A line and its words, and numbers in a row.
+#![tactic(auto)]
+
 ghost use Rattle.std.specs.Prelude.{◌≡◌, ℕ, ◌<◌, ◌≤◌, List, [], ◌∷◌, length, IfSome, IfOk, MatchOption};
 ghost use Rattle.numerals.specs.Numbers.{IsNumber, number};
 ghost use Rattle.std.specs.Option.{SomeIff};

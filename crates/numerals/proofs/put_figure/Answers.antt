@@ -9,4 +9,4 @@ pub returns : goal.returns
 returns g c plain ok =
     let value : c.from.result ≡ figure c.args.digit = search rules in
     let ascii : c.from.result < 128 = search rules in
-    has_written_of_eq _ _ _ _ _ (encode_ascii _ ascii ∙ ap (λ (d : ℕ). d ∷ []) value) (c.write-char.ensures.writes plain ok)
+    has_written_of_eq _ _ _ _ _ (encode_ascii _ ascii ∙ ap (λ (d : ℕ). d ∷ []) value) (c.write_char.ensures.writes plain ok)

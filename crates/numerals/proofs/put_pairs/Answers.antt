@@ -9,7 +9,7 @@ use Rattle.numerals.proofs.put_pairs.Goals as goal
 pub loop-b-preserved : goal.loop-b-preserved
 loop-b-preserved g c plain =
     let x = c.loop-b.invariant plain in
-    has_written_of_eq _ _ _ _ _ (sym (joined_more pair c.args.bytes.now c.loop-b.b-index 0 c.loop-b-test.true)) (has_written_append _ _ _ _ _ _ x (c.in-ok-put-pair.ensures x.plain refl))
+    has_written_of_eq _ _ _ _ _ (sym (joined_more pair c.args.bytes.now c.loop-b.b-index 0 c.loop-b-test.true)) (has_written_append _ _ _ _ _ _ x (c.in_ok-put_pair.ensures x.plain refl))
 
 pub returns : goal.returns
 returns g c plain ok = has_written_of_eq _ _ _ _ _ (ap pairs (take_all c.loop-b.b-index c.args.bytes.now c.loop-b-test.false)) (c.loop-b.invariant plain)

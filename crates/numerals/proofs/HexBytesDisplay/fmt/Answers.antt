@@ -8,5 +8,5 @@ dash : (bs : List ℕ) → length bs ≡ 0 → 45 ∷ [] ≡ bytes bs
 dash [] e = refl
 dash (b ∷ bs) e = absurd (omega arith)
 
-pub returns-then-is-empty-clause-writes : goal.returns-then-is-empty-clause-writes
-returns-then-is-empty-clause-writes g c plain ok = has_written_of_eq _ _ _ _ _ (dash _ (search rules)) (c.write-str.ensures.writes plain ok)
+pub returns-then-is_empty-clause-writes : goal.returns-then-is_empty-clause-writes
+returns-then-is_empty-clause-writes g c plain ok = has_written_of_eq _ _ _ _ _ (dash _ (search rules)) (c.write_str.ensures.writes plain ok)
