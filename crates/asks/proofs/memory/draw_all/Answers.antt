@@ -21,7 +21,7 @@ loop-drawn-preserved g c h =
     let e = ap (λ (o : Option Piece). Ok o) (sym c.in-Some.is) ∙ c.in-Ok.ensures.answer h in
     let moved : c.draw.new.self ≡ left_after c.loop-drawn.cursor (Ok (Some c.in-Some.piece)) = c.in-Ok.ensures.cursor ∙ ap (λ (o : Option Piece). left_after c.loop-drawn.cursor (Ok o)) c.in-Some.is in
     subst (λ (k : PhysicalCursor). Goes_on gr c.args.address c.args.count k.addr.0 k.count (vec_items c.push.new.self)) (sym moved)
-    (goes_more gr c.args.address c.args.count a n (vec_items c.loop-drawn.pieces) (vec_items c.push.new.self) c.in-Some.piece (c.loop-drawn.invariant h) e c.in_ok-push.ensures.items)
+    (goes_more gr c.args.address c.args.count a n (vec_items c.loop-drawn.pieces) (vec_items c.push.new.self) c.in-Some.piece (c.loop-drawn.invariant h) e c.in_ok-push-in-Ok.ensures.items)
 
 pub returns-in-Err : goal.returns-in-Err
 returns-in-Err g c h =
