@@ -13,10 +13,10 @@ use Rattle.guest_box.proofs.Kept.{of_parts, table_kept}
 use Rattle.guest_box.proofs.Told.{removed_told, not_removed_told}
 use Rattle.guest_box.proofs.guest_box.GuestBox.remove.Goals as goal
 
-pub invariant-of-self-in-Ok : goal.invariant-of-self-in-Ok
-invariant-of-self-in-Ok c =
+pub invariant_of-self-in-Ok : goal.invariant_of-self-in-Ok
+invariant_of-self-in-Ok c =
     let q = of_parts (λ (h : ℕ) (ys : List SlotRegion) (r : Result (Vec SlotRegion Global × SlotRegion) GuestRegionCollectionError). Removal h c.args.room ys c.args.start c.args.len r) (vec_len c.args.self.now.host) c.len.result c.in-Regions.regions c.args.self.now.memory c.as_slice.result.now c.in_ok-edited.edited (Ok (c.in-Ok.left, c.in-Ok.removed)) c.args.self.now.kept c.in-Regions.is c.len.ensures c.as_slice.ensures.value c.in-Ok.is c.in_ok-edited.ensures in
-    (table_kept (vec_len c.args.self.now.host) c.in-Ok.left q.2, tt)
+    record { kept = table_kept (vec_len c.args.self.now.host) c.in-Ok.left q.2 }
 
 pub returns-in-Ok : goal.returns-in-Ok
 returns-in-Ok c =
