@@ -1,4 +1,5 @@
 // Tests of what is read and written; the values expected are worked out by hand.
+#![tactic(auto)]
 
 #[cfg(test)]
 mod tests {
@@ -131,7 +132,7 @@ mod tests {
             return Err(Fail::new("no frames"));
         };
         assert_eq!(rt; base, 4096);
-        assert!(rt; entries.as_slice() == &[1, 2, 3]);
+        assert!(rt; entries.as_slice() == [1, 2, 3].as_slice());
         Ok(())
     }
 
