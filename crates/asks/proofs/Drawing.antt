@@ -1,5 +1,5 @@
 -- Drawing goes on from what was drawn, up to its end.
-use Rattle.std.proofs.Common.{◌≡◌, ℕ, ◌+◌, ◌-◌, ◌*◌, ◌/◌, ◌%◌, ◌^◌, List, [], ◌∷◌, ◌++◌, Some, None, Ok, Err, Option, sym, refl, ap, ◌∙◌, subst, append_assoc, append-nil, arith}
+use Rattle.std.proofs.Common.{◌≡◌, ℕ, ◌+◌, ◌-◌, ◌*◌, ◌/◌, ◌%◌, ◌^◌, List, [], ◌∷◌, ◌++◌, Some, None, Ok, Err, Option, sym, ap, ◌∙◌, subst, append_assoc, append-nil, arith}
 use native.Mathlib.Nat.{div-add-mod, add-mul-mod_self_left}
 use Rattle.region.specs.Grounds.{Ground}
 use Rattle.pieces.specs.Pieces.{drawn}

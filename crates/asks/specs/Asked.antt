@@ -1,10 +1,9 @@
 -- What each question is answered, by the meaning of the memory. Assumes nothing.
-use Rattle.std.specs.Prelude.{◌≡◌, ℕ, ◌+◌, ◌-◌, ◌*◌, ◌%◌, ◌^◌, ◌<◌, Bool, cond, List, [], ◌∷◌, map, length, Some, None, Ok, Err, vec_items, Option, Result, bit_xor}
+use Rattle.std.specs.Prelude.{◌≡◌, ℕ, ◌+◌, ◌-◌, ◌*◌, ◌%◌, ◌^◌, ◌<◌, List, [], ◌∷◌, Some, None, Ok, Err, vec_items, Option, Result, bit_xor}
 use Rattle.region.specs.Regions.{Region}
 use Rattle.region.specs.Grounds.{Ground, holding}
-use Rattle.pieces.specs.Pieces.{drawn, piece_bytes}
+use Rattle.pieces.specs.Pieces.{drawn}
 use Rattle.pieces.specs.Refused.{memory_refusal}
-use Rattle.pieces.specs.declared.piece.Piece.{Piece}
 use Rattle.pieces.specs.declared.error.GuestMemoryError.{GuestMemoryError}
 use Rattle.refusal.specs.declared.Refusal.{Refusal}
 use Rattle.refusal.specs.declared.Refusal.TheVariants as refused

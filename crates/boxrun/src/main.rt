@@ -1,4 +1,6 @@
 // Reads a box script from standard input and writes an answer for each command to standard output.
+#![tactic(auto)]
+
 use exchange::exchange::Exchange;
 use std::io;
 use std::io::{BufRead, BufReader, BufWriter, Write};

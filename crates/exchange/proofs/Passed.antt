@@ -1,5 +1,5 @@
 -- A command that is none about numbers and no new host bytes goes to the box.
-use Rattle.std.proofs.Common.{◌≡◌, ℕ, Some, None, Option, sym, refl, subst}
+use Rattle.std.proofs.Common.{◌≡◌, ℕ, Some, Option, sym, refl, subst}
 use Rattle.answers.specs.declared.Answer.{Answer}
 use Rattle.commands.specs.declared.Command.{Command}
 use Rattle.commands.specs.declared.Command.TheVariants.{Host, Ram, Window, Collect, Frames, InsertRam, InsertWindow, Remove, Count, Find, Last, Add, Sub, Offset, Mask, Slices, Bytes, Digest}

@@ -1,5 +1,5 @@
 -- A memory that passes its questions is made from a table that passes, and the other way round.
-use Rattle.std.proofs.Common.{◌≡◌, ℕ, Bool, true, not, List, map, length, is_some, Some, None, vec_items, vec_len, Option, Vec, sym, refl, ap, ◌∙◌, subst, subst₂, arith}
+use Rattle.std.proofs.Common.{◌≡◌, ℕ, true, not, List, map, length, is_some, Some, None, vec_items, vec_len, Option, Vec, sym, refl, ap, ◌∙◌, subst, subst₂, arith}
 use Rattle.std.specs.declared.alloc.Global.{Global}
 use Rattle.std.proofs.lemmas.List.{length-map, take_all}
 use Rattle.region.specs.Regions.{shown}

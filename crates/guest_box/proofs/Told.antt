@@ -1,6 +1,6 @@
 -- What an edit of the regions comes to, as an answer and as the memory that is left.
-use Rattle.std.proofs.Common.{◌≡◌, ℕ, ◌+◌, ◌-◌, ◌<◌, ◌≤◌, List, map, length, get_or, Some, None, Ok, Err, vec_items, vec_len, Option, Vec, sym, refl, ap, ◌∙◌, subst, arith}
-use Rattle.std.specs.List.{insert, remove}
+use Rattle.std.proofs.Common.{◌≡◌, ℕ, ◌+◌, ◌-◌, List, map, length, Ok, Err, vec_items, vec_len, Option, Vec, sym, ap, ◌∙◌, subst, arith}
+use Rattle.std.specs.List.{insert}
 use Rattle.std.specs.declared.alloc.Global.{Global}
 use Rattle.std.proofs.lemmas.List.Edits.{length-insert, length-remove}
 use Rattle.std.proofs.lemmas.List.{length-map}
@@ -8,15 +8,14 @@ use Rattle.region.specs.Regions.{Region, shown}
 use Rattle.region.specs.Slots.{slot_range, slot_place}
 use Rattle.region.specs.Grounds.{region_at}
 use Rattle.region.specs.declared.slot.SlotRegion.{SlotRegion}
-use Rattle.table.specs.Edits.{insert_fault, remove_fault, place_in, exact_index}
+use Rattle.table.specs.Edits.{place_in, exact_index}
 use Rattle.table.specs.Refused.{table_refusal}
 use Rattle.table.specs.declared.error.GuestRegionCollectionError.{GuestRegionCollectionError}
 use Rattle.table.proofs.Tables.{region_read}
-use Rattle.answers.specs.declared.Answer.{Answer}
-use Rattle.answers.specs.declared.Answer.TheVariants.{Number, Refused, Removed}
+use Rattle.answers.specs.declared.Answer.TheVariants.{Number, Refused}
 use Rattle.guest_box.specs.declared.memory.Memory.{Memory}
 use Rattle.guest_box.specs.declared.memory.Memory.TheVariants.{Regions}
-use Rattle.guest_box.specs.Memories.{Held, over, held, counted_or_refused, held_if}
+use Rattle.guest_box.specs.Memories.{over, held, counted_or_refused, held_if}
 use Rattle.regions.specs.Changes.{Insertion, Removal}
 use Rattle.guest_box.specs.Changes.{insert_answer, insert_held, remove_answer, remove_held, removed_or_refused, region_told, without}
 use Rattle.regions.proofs.Edited.{place_le, index_within}

@@ -1,5 +1,5 @@
 -- What the memory of a box means. Assumes nothing.
-use Rattle.std.specs.Prelude.{ℕ, Bool, not, List, map, length, is_some, Some, None, vec_items, vec_len, Option}
+use Rattle.std.specs.Prelude.{ℕ, Bool, not, List, map, is_some, Some, None, vec_items, vec_len, Option}
 use Rattle.region.specs.Regions.{shown}
 use Rattle.region.specs.Slots.{slot_range, slot_place}
 use Rattle.region.specs.Grounds.{Ground}

@@ -1,4 +1,5 @@
 // Tests of the library; the values expected are worked out by hand.
+#![tactic(auto)]
 
 #[cfg(test)]
 mod tests {

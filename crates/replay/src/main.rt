@@ -1,5 +1,7 @@
 // Replays the stored sample: each line of data/script is performed, and its answer compared with what
 // the oracle answered, line by line in data/answers.
+#![tactic(auto)]
+
 use exchange::exchange::Exchange;
 use std::io::{BufRead, BufReader};
 use std::{fs, io};

@@ -1,4 +1,4 @@
-use Rattle.std.proofs.Common.{◌≡◌, ℕ, ◌+◌, ◌*◌, ◌%◌, ◌<◌, get_or, vec_items, vec_len, sym, refl, ap, ◌∙◌, arith, rules, below_more}
+use Rattle.std.proofs.Common.{◌≡◌, ℕ, ◌+◌, ◌*◌, ◌%◌, get_or, vec_items, vec_len, sym, refl, ap, ◌∙◌, arith, below_more}
 use Rattle.asks.specs.Asked.{filler}
 use Rattle.asks.proofs.Drawing.{filled}
 use Rattle.asks.proofs.host.new_host.Goals as goal

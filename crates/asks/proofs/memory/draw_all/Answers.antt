@@ -1,5 +1,5 @@
-use Rattle.std.proofs.Common.{◌≡◌, ℕ, List, Some, None, Ok, Err, vec_items, Option, sym, refl, ap, ◌∙◌, subst}
-use Rattle.pieces.specs.Pieces.{drawn, left_after}
+use Rattle.std.proofs.Common.{◌≡◌, Some, Ok, vec_items, Option, sym, ap, ◌∙◌, subst}
+use Rattle.pieces.specs.Pieces.{left_after}
 use Rattle.pieces.specs.declared.piece.Piece.{Piece}
 use Rattle.pieces.specs.declared.piece.PhysicalCursor.{PhysicalCursor}
 use Rattle.asks.proofs.Drawing.{Goes_on, goes_more, goes_none, goes_err}

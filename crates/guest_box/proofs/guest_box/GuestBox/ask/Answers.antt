@@ -1,4 +1,4 @@
-use Rattle.std.proofs.Common.{◌≡◌, map, length, vec_items, vec_len, sym, refl, ap, ◌∙◌, subst}
+use Rattle.std.proofs.Common.{◌≡◌, map, length, vec_items, vec_len, sym, refl, ◌∙◌, subst}
 use Rattle.region.specs.Regions.{shown}
 use Rattle.region.specs.Slots.{slot_range, slot_place}
 use Rattle.region.specs.Grounds.{Ground}

@@ -1,8 +1,7 @@
-use Rattle.std.proofs.Common.{◌≡◌, ℕ, not, List, map, length, is_some, None, vec_items, vec_len, Option, sym, refl, ap, ◌∙◌, subst, rules}
+use Rattle.std.proofs.Common.{◌≡◌, not, map, length, is_some, None, vec_items, vec_len, Option, sym, ap, ◌∙◌, rules}
 use Rattle.std.proofs.lemmas.List.{length-map}
 use Rattle.region.specs.Regions.{shown}
 use Rattle.region.specs.Slots.{slot_range, slot_place}
-use Rattle.region.specs.declared.slot.SlotRegion.{SlotRegion}
 use Rattle.collection.specs.Collections.{make_fault}
 use Rattle.table.specs.declared.error.GuestRegionCollectionError.{GuestRegionCollectionError}
 use Rattle.regions.proofs.Whole.{accepted}

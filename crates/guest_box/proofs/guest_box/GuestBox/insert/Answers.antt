@@ -1,5 +1,5 @@
 -- The edit is of the regions that the memory keeps, which pass their questions.
-use Rattle.std.proofs.Common.{◌≡◌, ℕ, List, Ok, Err, vec_len, Result, Vec, refl, ap, ◌∙◌}
+use Rattle.std.proofs.Common.{ℕ, List, Ok, Err, vec_len, Result, Vec, refl, ap, ◌∙◌}
 use Rattle.std.specs.declared.alloc.Global.{Global}
 use Rattle.region.specs.declared.slot.SlotRegion.{SlotRegion}
 use Rattle.table.specs.declared.error.GuestRegionCollectionError.{GuestRegionCollectionError}
