@@ -1,11 +1,6 @@
 -- Sums and differences of addresses, cited by the contracts of src/address.rt. Assumes nothing.
 use Rattle.std.specs.Prelude.{ℕ, ◌+◌, ◌-◌, ◌%◌, ◌^◌, Bool, cond, Some, None, Option, nat_le, nat_lt}
 
--- what f makes of the value, where there is one
-abbrev pub each : {A B : Type 0} → (A → B) → Option A → Option B
-each f None = None
-each f (Some x) = Some (f x)
-
 -- a + b; absent from 2^64 on
 abbrev pub sum : ℕ → ℕ → Option ℕ
 sum a b = cond (nat_lt (a + b) (2 ^ 64)) (Some (a + b)) None

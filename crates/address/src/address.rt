@@ -1,6 +1,6 @@
 // An address within an address space, and the operations that every kind of address shares.
-ghost use Rattle.std.specs.Prelude.{◌≡◌, ℕ, bit_and};
-ghost use Rattle.address.specs.Addresses.{each, sum, difference, wrapped_sum, passes_top, wrapped_difference, passes_bottom};
+ghost use Rattle.std.specs.Prelude.{◌≡◌, ℕ, bit_and, option_map};
+ghost use Rattle.address.specs.Addresses.{sum, difference, wrapped_sum, passes_top, wrapped_difference, passes_bottom};
 
 /// An address is a raw number from 0 to 2^64 - 1. The operations are written once, here.
 pub trait Address: Sized + Copy {
@@ -28,14 +28,15 @@ pub trait Address: Sized + Copy {
         self.raw_value().checked_sub(base.raw_value())
     }
 
+    // The four sums and differences are the Rust's: each is a call of the number's own, so one function over
+    // a closure would save nothing. An address beside a bool is a rule of the project.
+
     /// This address plus `other`; absent where that passes 2^64 - 1.
     fn checked_add(&self, other: u64) -> Option<Self>
-        ensures { each raw result ≡ sum (raw self.now) other }
+        ensures { option_map raw result ≡ sum (raw self.now) other }
     {
-        match self.raw_value().checked_add(other) {
-            Some(raw) => Some(Self::new(raw)),
-            None => None,
-        }
+        let raw = self.raw_value().checked_add(other)?;
+        Some(Self::new(raw))
     }
 
     /// This address plus `other` modulo 2^64, and whether that went past the top.
@@ -48,12 +49,10 @@ pub trait Address: Sized + Copy {
 
     /// This address less `other`; absent where that falls below 0.
     fn checked_sub(&self, other: u64) -> Option<Self>
-        ensures { each raw result ≡ difference (raw self.now) other }
+        ensures { option_map raw result ≡ difference (raw self.now) other }
     {
-        match self.raw_value().checked_sub(other) {
-            Some(raw) => Some(Self::new(raw)),
-            None => None,
-        }
+        let raw = self.raw_value().checked_sub(other)?;
+        Some(Self::new(raw))
     }
 
     /// This address less `other` modulo 2^64, and whether that went below the bottom.
@@ -73,6 +72,7 @@ pub struct GuestAddress(pub u64);
 #[derive(Clone, Copy, PartialEq, Eq)]
 pub struct MemoryRegionAddress(pub u64);
 
+// written out for each type: the gate refuses an impl that a macro writes
 impl Address for GuestAddress {
     ghost raw = { λ a. a.0 };
 

@@ -1,5 +1,5 @@
 // Permissions of an access, and of what is held against it.
-ghost use Rattle.std.specs.Prelude.{◌≡◌, ◌<◌, Decides, MatchResult, bit_and, bit_or};
+ghost use Rattle.std.specs.Prelude.{◌≡◌, ◌<◌, ◌≤◌, Decides, MatchResult, bit_and, bit_or};
 ghost use Rattle.address.specs.Permitted.{bits, Allows};
 ghost use Rattle.refusal.specs.declared.Refusal.TheVariants.{BadPermissions as Number14};
 
@@ -26,56 +26,62 @@ impl From<BadPermissions> for Refusal {
     }
 }
 
+/// The permissions of a raw value, which is at most 3.
+impl TryFrom<u64> for Permissions {
+    type Error = BadPermissions;
+
+    ghost try_from_gives = { λ raw r. MatchResult r (λ p. bits p ≡ raw) (λ _. 3 < raw) };
+
+    fn try_from(raw: u64) -> Result<Permissions, BadPermissions> {
+        if raw > 3 {
+            return Err(BadPermissions);
+        }
+        Ok(Permissions::of_bits(raw as u8))
+    }
+}
+
+/// The raw value.
+impl From<Permissions> for u8 {
+    ghost from_gives = { λ p raw. raw ≡ bits p };
+
+    fn from(permissions: Permissions) -> u8 {
+        permissions as u8
+    }
+}
+
 impl Permissions {
-    /// The permissions of a raw value, which is at most 3.
-    pub fn from_repr(raw: u64) -> Result<Permissions, BadPermissions>
-        ensures { MatchResult result (λ p. bits p ≡ raw) (λ _. 3 < raw) }
+    /// The permissions of two bits.
+    fn of_bits(raw: u8) -> Permissions
+        requires { raw ≤ 3 }
+        ensures { bits result ≡ raw }
     {
         match raw {
-            0 => Ok(Permissions::No),
-            1 => Ok(Permissions::Read),
-            2 => Ok(Permissions::Write),
-            3 => Ok(Permissions::ReadWrite),
-            _ => Err(BadPermissions),
+            0 => Permissions::No,
+            1 => Permissions::Read,
+            2 => Permissions::Write,
+            _ => Permissions::ReadWrite,
         }
-    }
-
-    /// The raw value.
-    pub fn repr(self) -> u8
-        ensures { result ≡ bits self }
-    {
-        self as u8
     }
 
     /// What either of the two has.
     pub fn union(self, other: Permissions) -> Permissions
         ensures { bits result ≡ bit_or (bits self) (bits other) }
     {
-        match (self, other) {
-            (Permissions::No, p) | (p, Permissions::No) => p,
-            (Permissions::Read, Permissions::Read) => Permissions::Read,
-            (Permissions::Write, Permissions::Write) => Permissions::Write,
-            _ => Permissions::ReadWrite,
-        }
+        Permissions::of_bits(self as u8 | other as u8)
     }
 
     /// What both of the two have.
     pub fn intersection(self, other: Permissions) -> Permissions
         ensures { bits result ≡ bit_and (bits self) (bits other) }
     {
-        match (self, other) {
-            (Permissions::ReadWrite, p) | (p, Permissions::ReadWrite) => p,
-            (Permissions::Read, Permissions::Read) => Permissions::Read,
-            (Permissions::Write, Permissions::Write) => Permissions::Write,
-            _ => Permissions::No,
-        }
+        Permissions::of_bits(self as u8 & other as u8)
     }
 
     /// Whether these permissions, held, allow the access.
     pub fn allow(self, access: Permissions) -> bool
         ensures { Decides result (Allows (bits self) (bits access)) }
     {
-        self.repr() & access.repr() == access.repr()
+        self.intersection(access) == access
     }
 
     /// Whether these permissions include Write.

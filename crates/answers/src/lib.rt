@@ -5,6 +5,8 @@ ghost use Rattle.answers.specs.Answers.{each, line, piece, place, refused};
 ghost use Rattle.std.specs.Prelude.{Some};
 ghost use Rattle.std.specs.Fmt.{WritesOnOk};
 
+pub mod failure;
+
 use numerals::{Hex, HexBytes};
 use refusal::Refusal;
 use std::fmt;
@@ -28,7 +30,7 @@ pub enum Answer {
     Region(Span, Option<u64>),
     /// The number of regions left, then the region that was removed.
     Removed(u64, Span, Option<u64>),
-    /// The checked result, the wrapped one, and whether it wrapped.
+    /// The checked result, the wrapped one, and whether it wrapped: the line has all three.
     Checked(Option<u64>, u64, bool),
     /// The pieces that were drawn, and what a further draw was refused for.
     Pieces(Vec<Span>, Option<Refusal>),
@@ -46,19 +48,12 @@ struct Place(Option<u64>);
 #[derive(Clone, Copy, Drop)]
 struct Reason(Refusal);
 
-/// Pieces in a row, each after a blank.
-#[derive(Clone, Copy, Drop)]
-struct Row<'a>(&'a [Span]);
-
 impl fmt::Display for Place {
     ghost output = { λ x. Some (place x.0) };
 
     fn fmt<W: fmt::Write>(&self, f: &mut fmt::Formatter<W>) -> fmt::Result {
         match self.0 {
-            Some(n) => {
-                let number = Hex(n);
-                write!(f, "{number}")
-            }
+            Some(n) => write!(f, "{}", Hex(n)),
             None => f.write_str("none"),
         }
     }
@@ -68,27 +63,20 @@ impl fmt::Display for Span {
     ghost output = { λ x. Some (piece x) };
 
     fn fmt<W: fmt::Write>(&self, f: &mut fmt::Formatter<W>) -> fmt::Result {
-        let start = Hex(self.start);
-        let len = Hex(self.len);
-        write!(f, "{start}+{len}")
+        write!(f, "{}+{}", Hex(self.start), Hex(self.len))
     }
 }
 
+/// Writes spans in a row, each after a blank.
 fn put_row<W: fmt::Write>(row: &[Span], f: &mut fmt::Formatter<W>) -> fmt::Result
     ensures { WritesOnOk W.write_str_gives f.old result (each piece row.now) f.new }
 {
+    // a `try_for_each` here leaves open what was written (tried): nothing is known of what its closure
+    // changed
     for span in row {
         write!(f, " {span}")?;
     }
     Ok(())
-}
-
-impl<'a> fmt::Display for Row<'a> {
-    ghost output = { λ x. Some (each piece x.0.now) };
-
-    fn fmt<W: fmt::Write>(&self, f: &mut fmt::Formatter<W>) -> fmt::Result {
-        put_row(self.0, f)
-    }
 }
 
 impl fmt::Display for Reason {
@@ -99,8 +87,7 @@ impl fmt::Display for Reason {
         let name = self.0.name();
         match self.0 {
             Refusal::BadRegion(n) | Refusal::InvalidGuestAddress(n) => {
-                let detail = Hex(n);
-                write!(f, "refused {number} {name} {detail}")
+                write!(f, "refused {number} {name} {}", Hex(n))
             }
             _ => write!(f, "refused {number} {name}"),
         }
@@ -113,42 +100,25 @@ impl fmt::Display for Answer {
     fn fmt<W: fmt::Write>(&self, f: &mut fmt::Formatter<W>) -> fmt::Result {
         match self {
             Answer::Done => f.write_str("ok"),
-            Answer::Number(n) => {
-                let number = Hex(*n);
-                write!(f, "ok {number}")
-            }
+            Answer::Number(n) => write!(f, "ok {}", Hex(*n)),
             Answer::Absent => f.write_str("none"),
-            Answer::Region(region, place) => {
-                let place = Place(*place);
-                write!(f, "ok {region} {place}")
+            Answer::Region(region, place) => write!(f, "ok {region} {}", Place(*place)),
+            Answer::Removed(left, region, place) => {
+                write!(f, "ok {} {region} {}", Hex(*left), Place(*place))
             }
-            Answer::Removed(n, region, place) => {
-                let count = Hex(*n);
-                let place = Place(*place);
-                write!(f, "ok {count} {region} {place}")
+            Answer::Checked(checked, wrapped, over) => {
+                write!(f, "ok {} {} {over}", Place(*checked), Hex(*wrapped))
             }
-            Answer::Checked(checked, n, over) => {
-                let result = Place(*checked);
-                let wrapped = Hex(*n);
-                write!(f, "ok {result} {wrapped} {over}")
+            Answer::Pieces(drawn, end) => {
+                f.write_str("ok")?;
+                put_row(drawn.as_slice(), f)?;
+                match end {
+                    Some(refusal) => write!(f, " {}", Reason(*refusal)),
+                    None => Ok(()),
+                }
             }
-            Answer::Pieces(drawn, None) => {
-                let row = Row(drawn.as_slice());
-                write!(f, "ok{row}")
-            }
-            Answer::Pieces(drawn, Some(refusal)) => {
-                let row = Row(drawn.as_slice());
-                let reason = Reason(*refusal);
-                write!(f, "ok{row} {reason}")
-            }
-            Answer::Bytes(held) => {
-                let bytes = HexBytes(held.as_slice());
-                write!(f, "ok {bytes}")
-            }
-            Answer::Refused(refusal) => {
-                let reason = Reason(*refusal);
-                write!(f, "{reason}")
-            }
+            Answer::Bytes(bytes) => write!(f, "ok {}", HexBytes(bytes.as_slice())),
+            Answer::Refused(refusal) => write!(f, "{}", Reason(*refusal)),
             Answer::Error => f.write_str("error"),
         }
     }

@@ -1,5 +1,6 @@
 -- What each question is answered, by the meaning of the memory. Assumes nothing.
-use Rattle.std.specs.Prelude.{◌≡◌, ℕ, ◌+◌, ◌-◌, ◌*◌, ◌%◌, ◌^◌, ◌<◌, List, [], ◌∷◌, Some, None, Ok, Err, vec_items, Option, Result, bit_xor}
+use Rattle.std.specs.Prelude.{◌≡◌, ℕ, ◌+◌, ◌-◌, ◌*◌, ◌%◌, ◌^◌, ◌<◌, List, [], ◌∷◌, Some, None, Ok, Err, vec_items, Option, Result, bit_xor, fold}
+use Rattle.std.specs.Option.{option_map_or}
 use Rattle.region.specs.Regions.{Region}
 use Rattle.region.specs.Grounds.{Ground, holding}
 use Rattle.pieces.specs.Pieces.{drawn}
@@ -12,13 +13,11 @@ use Rattle.answers.specs.declared.Answer.{Answer}
 use Rattle.answers.specs.declared.Answer.TheVariants.{Number, Absent, Region as Found, Pieces, Bytes, Refused, Error, Done, Checked, Removed}
 
 abbrev pub number_or_none : Option ℕ → Answer
-number_or_none None = Absent
-number_or_none (Some n) = Number n
+number_or_none o = option_map_or Number o Absent
 
 -- a region by its addresses and its place
 abbrev pub region_or_none : Option Region → Answer
-region_or_none None = Absent
-region_or_none (Some r) = Found (record { start = r.start; len = r.len }) r.place
+region_or_none o = option_map_or (λ r. Found (record { start = r.start; len = r.len }) r.place) o Absent
 
 -- the region that holds an address
 abbrev pub found : Ground → ℕ → Answer
@@ -65,5 +64,4 @@ filler p = (7 * p + 3) % 256
 
 -- the FNV-1a hash of 64 bits, from the left
 abbrev pub fnv : ℕ → List ℕ → ℕ
-fnv h [] = h
-fnv h (b ∷ bs) = fnv ((bit_xor h b * 0x100000001b3) % 2 ^ 64) bs
+fnv h bs = fold (λ h b. (bit_xor h b * 0x100000001b3) % 2 ^ 64) h bs

@@ -1,5 +1,5 @@
 // A collection of regions is a backend.
-ghost use Rattle.collection.specs.Collections.{ground_of, Lawful};
+ghost use Rattle.collection.specs.Collections.{ground_of};
 
 use crate::backend::GuestMemoryBackend;
 use address::address::GuestAddress;
@@ -8,20 +8,23 @@ use region::region::{AddressRange, GuestMemoryRegion};
 use region::slot::{SlotRegion, slot_of};
 
 impl<'a, R: GuestMemoryRegion> GuestMemoryBackend for GuestRegionCollection<'a, R> {
-    ghost meant = { λ c. ground_of R.AddressRange.range R.GuestMemoryRegion.place c };
+    ghost meant = { λ c. ground_of c };
 
-    ghost lawful = { λ c. Lawful R.AddressRange.range R.GuestMemoryRegion.place c };
-
-    ghost keeps = { λ c h. h };
+    ghost keeps = { λ c. c.lawful };
 
     fn host_len(&self) -> u64 {
         self.host_len()
     }
 
+    fn num_regions(&self) -> usize {
+        self.num_regions()
+    }
+
+    fn last_addr(&self) -> GuestAddress {
+        self.last_addr()
+    }
+
     fn region_at(&self, addr: GuestAddress) -> Option<SlotRegion> {
-        match self.find_region(addr) {
-            Some(region) => Some(slot_of(region)),
-            None => None,
-        }
+        self.find_region(addr).map(|region| slot_of(region))
     }
 }

@@ -1,6 +1,6 @@
 // A new collection from an old one, with a region more or a region less.
 ghost use Rattle.std.specs.Prelude.{◌≡◌, ◌≤◌, length, MatchResult};
-ghost use Rattle.collection.specs.Collections.{items, Lawful};
+ghost use Rattle.collection.specs.Collections.{items};
 ghost use Rattle.table.specs.Edits.{Inserts, Removes};
 
 use crate::collection::GuestRegionCollection;
@@ -18,7 +18,7 @@ impl<'a, R: GuestMemoryRegion + Copy> GuestRegionCollection<'a, R> {
         dest: &mut [R],
     ) -> Result<usize, GuestRegionCollectionError>
         ensures within { MatchResult result (λ n. n ≤ length dest.new) (λ _. dest.new ≡ dest.old) }
-        ensures exact { Lawful R.AddressRange.range R.GuestMemoryRegion.place self.now → Inserts R.AddressRange.range R.GuestMemoryRegion.place self.now.host_len (items self.now) region dest.old dest.new result }
+        ensures exact { Inserts R.AddressRange.range R.GuestMemoryRegion.place self.now.host_len (items self.now) region dest.old dest.new result }
     {
         let table = self.regions();
         insert(table, self.host_len, region, dest)
@@ -34,7 +34,7 @@ impl<'a, R: GuestMemoryRegion + Copy> GuestRegionCollection<'a, R> {
         dest: &mut [R],
     ) -> Result<(usize, R), GuestRegionCollectionError>
         ensures within { MatchResult result (λ p. p.0 ≤ length dest.new) (λ _. dest.new ≡ dest.old) }
-        ensures exact { Lawful R.AddressRange.range R.GuestMemoryRegion.place self.now → Removes R.AddressRange.range R.GuestMemoryRegion.place self.now.host_len (items self.now) start.0 len dest.old dest.new result }
+        ensures exact { Removes R.AddressRange.range R.GuestMemoryRegion.place self.now.host_len (items self.now) start.0 len dest.old dest.new result }
     {
         let table = self.regions();
         remove(table, start, len, dest)

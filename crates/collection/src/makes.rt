@@ -1,19 +1,18 @@
 // Making a collection, and asking it about itself.
 ghost use Rattle.std.specs.Prelude.{◌≡◌, [], map, length, take, IfOk, Some, None, MatchResult};
 ghost use Rattle.region.specs.Regions.{shown};
-ghost use Rattle.collection.specs.Collections.{items, ground_of, Lawful, make_fault, edited_fault, highest};
+ghost use Rattle.collection.specs.Collections.{items, ground_of, make_fault, edited_fault, highest};
 
 use crate::collection::GuestRegionCollection;
 use address::address::GuestAddress;
 use region::region::{AddressRange, GuestMemoryRegion};
-use table::checks::table_error;
+use table::checks::check_table;
 use table::error::GuestRegionCollectionError;
 
 impl<'a, R: GuestMemoryRegion> GuestRegionCollection<'a, R> {
     /// The collection without a region.
     pub fn new(host_len: u64) -> Self
         ensures items { (items result ≡ []) × (result.host_len ≡ host_len) }
-        ensures lawful { Lawful R.AddressRange.range R.GuestMemoryRegion.place result }
     {
         GuestRegionCollection {
             table: &[],
@@ -26,19 +25,16 @@ impl<'a, R: GuestMemoryRegion> GuestRegionCollection<'a, R> {
     /// sound, a region starts later than the next one, or does not end before it.
     pub fn from_regions(table: &'a [R], host_len: u64) -> Result<Self, GuestRegionCollectionError>
         ensures answer { MatchResult result (λ c. (make_fault host_len (map (shown R.AddressRange.range R.GuestMemoryRegion.place) table.now) ≡ None) × (items c ≡ table.now) × (c.host_len ≡ host_len)) (λ e. make_fault host_len (map (shown R.AddressRange.range R.GuestMemoryRegion.place) table.now) ≡ Some e) }
-        ensures lawful { IfOk result (λ c. Lawful R.AddressRange.range R.GuestMemoryRegion.place c) }
     {
         if table.is_empty() {
             return Err(GuestRegionCollectionError::NoMemoryRegion);
         }
-        match table_error(table, host_len) {
-            Some(error) => Err(error),
-            None => Ok(GuestRegionCollection {
-                table,
-                count: table.len(),
-                host_len,
-            }),
-        }
+        check_table(table, host_len)?;
+        Ok(GuestRegionCollection {
+            table,
+            count: table.len(),
+            host_len,
+        })
     }
 
     /// The collection that an insertion or a removal left in the first `count` entries of a table; it
@@ -49,19 +45,16 @@ impl<'a, R: GuestMemoryRegion> GuestRegionCollection<'a, R> {
         host_len: u64,
     ) -> Result<Self, GuestRegionCollectionError>
         ensures answer { MatchResult result (λ c. (edited_fault host_len count (map (shown R.AddressRange.range R.GuestMemoryRegion.place) table.now) ≡ None) × (items c ≡ take count table.now) × (c.host_len ≡ host_len)) (λ e. edited_fault host_len count (map (shown R.AddressRange.range R.GuestMemoryRegion.place) table.now) ≡ Some e) }
-        ensures lawful { IfOk result (λ c. Lawful R.AddressRange.range R.GuestMemoryRegion.place c) }
     {
         if table.len() < count {
             return Err(GuestRegionCollectionError::NoRoom);
         }
-        match table_error(&table[0..count], host_len) {
-            Some(error) => Err(error),
-            None => Ok(GuestRegionCollection {
-                table,
-                count,
-                host_len,
-            }),
-        }
+        check_table(&table[..count], host_len)?;
+        Ok(GuestRegionCollection {
+            table,
+            count,
+            host_len,
+        })
     }
 
     /// The host length that the collection was made for.
@@ -77,7 +70,7 @@ impl<'a, R: GuestMemoryRegion> GuestRegionCollection<'a, R> {
     {
         let table = self.table;
         let count = self.count.min(table.len());
-        &table[0..count]
+        &table[..count]
     }
 
     /// The number of regions.
@@ -89,7 +82,7 @@ impl<'a, R: GuestMemoryRegion> GuestRegionCollection<'a, R> {
 
     /// The highest address of any region; 0 where there is none.
     pub fn last_addr(&self) -> GuestAddress
-        ensures { Lawful R.AddressRange.range R.GuestMemoryRegion.place self.now → result.0 ≡ highest (ground_of R.AddressRange.range R.GuestMemoryRegion.place self.now).regions }
+        ensures { result.0 ≡ highest (ground_of self.now).regions }
     {
         match self.regions().last() {
             Some(region) => region.last_addr(),

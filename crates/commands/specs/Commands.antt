@@ -1,9 +1,9 @@
 -- Which words write a command: what the clauses of src/ on commands cite. Assumes nothing.
-use Rattle.std.specs.Prelude.{◌≡◌, ℕ, true, false, List, [], ◌∷◌, Some, None, vec_items, codes, IsUtf8, Option}
+use Rattle.std.specs.Prelude.{◌≡◌, ℕ, true, false, List, [], ◌∷◌, Some, None, vec_items, codes, IsUtf8, Option, Ok, Err, Result}
 use Rattle.commands.specs.declared.Command.{Command}
 use Rattle.commands.specs.declared.Command.TheVariants.{Host, Ram, Window, Collect, Frames, InsertRam, InsertWindow, Remove, Count, Find, Last, Add, Sub, Offset, Mask, Slices, Bytes, Digest}
-use Rattle.commands.specs.declared.Reading.{Reading}
-use Rattle.commands.specs.declared.Reading.TheVariants.{Nothing, Malformed, Asks}
+use Rattle.words.specs.declared.LineError.{LineError}
+use Rattle.words.specs.declared.LineError.TheVariants.{Malformed, Alloc}
 use Rattle.words.specs.Parts.{Part, word, num, num≤, Fill, listed}
 use Rattle.words.specs.Words.{words, idle}
 
@@ -37,8 +37,10 @@ abbrev pub Reads : Option Command → List (List ℕ) → Type 0
 Reads None ws = (c : Command) → Writes c ws → ⊥
 Reads (Some c) ws = Writes c ws
 
--- what a line is read as: one that is text and asks for nothing, one that is text and writes a command, and any other
-abbrev pub Tells : Reading → List ℕ → Type 0
-Tells Nothing line = IsUtf8 line × (idle line ≡ true)
-Tells (Asks c) line = IsUtf8 line × (idle line ≡ false) × Writes c (words line)
-Tells Malformed line = IsUtf8 line → (idle line ≡ false) × ((c : Command) → Writes c (words line) → ⊥)
+-- what a line is read as: one that is text and asks for nothing, one that is text and writes a command, and any other;
+-- where memory ran out it says nothing
+abbrev pub Tells : Result (Option Command) LineError → List ℕ → Type 0
+Tells (Ok None) line = IsUtf8 line × (idle line ≡ true)
+Tells (Ok (Some c)) line = IsUtf8 line × (idle line ≡ false) × Writes c (words line)
+Tells (Err Malformed) line = IsUtf8 line → (idle line ≡ false) × ((c : Command) → Writes c (words line) → ⊥)
+Tells (Err (Alloc e)) line = Unit {0}

@@ -1,12 +1,14 @@
 // The commands by their number of words: the numbers are read first, then the name decides.
-ghost use Rattle.std.specs.Prelude.{◌≡◌, [], ◌∷◌, IfOk, codes, ◌≢◌};
+// One `match` on a slice of all words (tried) checks for over two minutes, and its `_` arm stays open.
+ghost use Rattle.std.specs.Prelude.{◌≡◌, [], ◌∷◌, codes, ◌≢◌};
 ghost use Rattle.commands.specs.Commands.{Reads};
+ghost use Rattle.words.specs.Lines.{IfRead};
 ghost use Rattle.words.specs.Words.{words};
 
 use crate::Command;
 use numerals::parse_number;
-use std::alloc::{AllocError, Global};
-use words::{cut, parse_entries};
+use std::alloc::Global;
+use words::{LineError, cut, parse_entries};
 
 /// The most bytes that a box may have, and that are written out at a time.
 const MOST: u64 = 0x100_0000;
@@ -148,34 +150,28 @@ fn with_words(name: &str, rest: &str) -> Option<Command>
 }
 
 /// The one command with any number of words: the base, and the entries if there are any.
-fn with_entries(heap: Global, rest: &str) -> Result<Option<Command>, AllocError>
-    ensures { IfOk result (λ o. Reads o (codes "frames" ∷ words rest.now)) }
+fn with_entries(heap: Global, rest: &str) -> Result<Command, LineError>
+    ensures { IfRead result (λ o. Reads o (codes "frames" ∷ words rest.now)) }
 {
     let Some((word, more)) = cut(rest) else {
-        let Some(base) = parse_number(rest) else {
-            return Ok(None);
-        };
-        return Ok(Some(Command::Frames {
+        let base = parse_number(rest).ok_or(LineError::Malformed)?;
+        return Ok(Command::Frames {
             base,
             entries: Vec::new(heap),
-        }));
+        });
     };
-    let Some(base) = parse_number(word) else {
-        return Ok(None);
-    };
-    match parse_entries(heap, more)? {
-        Some(entries) => Ok(Some(Command::Frames { base, entries })),
-        None => Ok(None),
-    }
+    let base = parse_number(word).ok_or(LineError::Malformed)?;
+    let entries = parse_entries(heap, more)?;
+    Ok(Command::Frames { base, entries })
 }
 
-/// The command that a text writes, if it writes one.
-pub fn read_command(heap: Global, text: &str) -> Result<Option<Command>, AllocError>
-    ensures { IfOk result (λ o. Reads o (words text.now)) }
+/// The command that a text writes.
+pub fn read_command(heap: Global, text: &str) -> Result<Command, LineError>
+    ensures { IfRead result (λ o. Reads o (words text.now)) }
 {
     match cut(text) {
-        None => Ok(bare(text)),
+        None => bare(text).ok_or(LineError::Malformed),
         Some(("frames", rest)) => with_entries(heap, rest),
-        Some((name, rest)) => Ok(with_words(name, rest)),
+        Some((name, rest)) => with_words(name, rest).ok_or(LineError::Malformed),
     }
 }

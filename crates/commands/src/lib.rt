@@ -2,11 +2,12 @@
 #![tactic(auto)]
 
 ghost use Rattle.commands.specs.Commands.{Tells};
-ghost use Rattle.std.specs.Prelude.{IfOk};
 
-use std::alloc::{AllocError, Global};
+use std::alloc::Global;
 
 mod forms;
+
+pub use words::LineError;
 
 /// One command, with its numbers.
 #[derive(Drop)]
@@ -68,6 +69,7 @@ pub enum Command {
     Slices {
         address: u64,
         count: u64,
+        /// The raw value: it is asked whether it is one only where there is a memory.
         access: u64,
     },
     Bytes {
@@ -77,30 +79,15 @@ pub enum Command {
     Digest,
 }
 
-/// What a line was read as.
-#[derive(Drop)]
-pub enum Reading {
-    /// An empty line, a line of blanks, or a comment.
-    Nothing,
-    /// No command.
-    Malformed,
-    Asks(Command),
-}
-
 /// Reads one line, which comes without its newline.
 /// An empty line, one of blanks and a comment ask for nothing; any other line that is no command,
 /// or no text in UTF-8, is malformed.
-pub fn read_line(heap: Global, line: &[u8]) -> Result<Reading, AllocError>
-    ensures { IfOk result (λ x. Tells x line.now) }
+pub fn read_line(heap: Global, line: &[u8]) -> Result<Option<Command>, LineError>
+    ensures { Tells result line.now }
 {
-    let Ok(text) = std::str::from_utf8(line) else {
-        return Ok(Reading::Malformed);
-    };
+    let text = std::str::from_utf8(line).map_err(|_| LineError::Malformed)?;
     if words::is_idle(text) {
-        return Ok(Reading::Nothing);
+        return Ok(None);
     }
-    match forms::read_command(heap, text)? {
-        Some(command) => Ok(Reading::Asks(command)),
-        None => Ok(Reading::Malformed),
-    }
+    Ok(Some(forms::read_command(heap, text)?))
 }

@@ -1,12 +1,15 @@
 // An exchange: a box, once there is one, and the commands that it is given.
 ghost use Rattle.std.specs.Prelude.{◌≡◌, IfOk, None};
+ghost use Rattle.answers.specs.Failures.{Settles};
 ghost use Rattle.exchange.specs.Performs.{ram_slot, window_slot, Adds, Performed, Performs};
 
 use address::address::GuestAddress;
 use answers::Answer;
+use answers::failure::{Failure, settled};
 use asks::numbers;
 use commands::Command;
 use guest_box::guest_box::GuestBox;
+use pieces::piece::Piece;
 use region::slot::{RamRegion, SlotRegion};
 use std::alloc::{AllocError, Global};
 use survey::question::Question;
@@ -33,22 +36,22 @@ fn window(start: u64, len: u64) -> SlotRegion
 }
 
 /// Adds a region to those to collect.
-fn add(guest: &mut GuestBox, region: SlotRegion) -> Result<Answer, AllocError>
-    ensures { IfOk result (λ x. Adds guest.old region x guest.new) }
+fn add(guest: &mut GuestBox, region: SlotRegion) -> Result<Answer, Failure>
+    ensures { Settles result (λ x. Adds guest.old region x guest.new) }
 {
     guest.add_region(region)?;
     Ok(Answer::Done)
 }
 
 /// Performs a command that needs a box.
-fn perform_in(guest: &mut GuestBox, heap: Global, command: Command) -> Result<Answer, AllocError>
-    ensures { IfOk result (λ x. Performed guest.old command x guest.new) }
+fn perform_in(guest: &mut GuestBox, heap: Global, command: Command) -> Result<Answer, Failure>
+    ensures { Settles result (λ x. Performed guest.old command x guest.new) }
 {
     match command {
         Command::Ram { start, len, place } => add(guest, ram(start, len, place)),
         Command::Window { start, len } => add(guest, window(start, len)),
-        Command::Collect => Ok(guest.collect(heap)),
-        Command::Frames { base, entries } => Ok(guest.frame(base, entries)),
+        Command::Collect => Ok(guest.collect(heap)?),
+        Command::Frames { base, entries } => Ok(guest.frame(base, entries)?),
         Command::InsertRam {
             room,
             start,
@@ -64,10 +67,17 @@ fn perform_in(guest: &mut GuestBox, heap: Global, command: Command) -> Result<An
             address,
             count,
             access,
-        } => guest.ask(heap, Question::Slices(address, count, access)),
-        Command::Bytes { place, count } => guest.bytes(heap, place, count),
+        } => guest.ask(
+            heap,
+            Question::Slices {
+                address,
+                count,
+                access,
+            },
+        ),
+        Command::Bytes { place, count } => guest.bytes(heap, Piece { place, len: count }),
         Command::Digest => Ok(guest.digest()),
-        _ => Ok(Answer::Error),
+        _ => Err(Failure::Error),
     }
 }
 
@@ -99,7 +109,7 @@ impl Exchange {
                 Ok(Answer::Done)
             }
             other => match &mut self.inner {
-                Some(guest) => perform_in(guest, heap, other),
+                Some(guest) => settled(perform_in(guest, heap, other)),
                 None => Ok(Answer::Error),
             },
         }

@@ -4,7 +4,7 @@ ghost use Rattle.exchange.specs.Lines.{AnswersLine};
 
 use crate::exchange::Exchange;
 use answers::Answer;
-use commands::{Reading, read_line};
+use commands::{LineError, read_line};
 use std::alloc::{AllocError, Global};
 
 impl Exchange {
@@ -12,14 +12,11 @@ impl Exchange {
     pub fn answer(&mut self, heap: Global, line: &[u8]) -> Result<Option<Answer>, AllocError>
         ensures { IfOk result (λ o. AnswersLine line.now self.old.inner o self.new.inner) }
     {
-        let reading = read_line(heap, line)?;
-        match reading {
-            Reading::Nothing => Ok(None),
-            Reading::Malformed => Ok(Some(Answer::Error)),
-            Reading::Asks(command) => {
-                let answer = self.perform(heap, command)?;
-                Ok(Some(answer))
-            }
+        match read_line(heap, line) {
+            Ok(None) => Ok(None),
+            Ok(Some(command)) => Ok(Some(self.perform(heap, command)?)),
+            Err(LineError::Malformed) => Ok(Some(Answer::Error)),
+            Err(LineError::Alloc(error)) => Err(error),
         }
     }
 }

@@ -1,11 +1,14 @@
 -- The list of present frames: what holds an address, how many, how high, and that it keeps its meaning.
-use Rattle.std.proofs.Common.{◌≡◌, ℕ, zero, suc, ◌+◌, ◌*◌, ◌^◌, ◌<◌, ◌≤◌, max, Bool, true, false, cond, not, eqb, List, [], ◌∷◌, ◌++◌, map, length, get_or, take, Some, None, sym, refl, ap, ◌∙◌, subst, arith, eq-eqb, ne_eqb}
+use Rattle.std.proofs.Common.{◌≡◌, ℕ, zero, suc, ◌+◌, ◌-◌, ◌*◌, ◌/◌, ◌%◌, ◌^◌, ◌<◌, ◌≤◌, Bool, true, false, cond, not, eqb, leb, List, [], ◌∷◌, map, length, get_or, Some, None, sym, refl, ap, ◌∙◌, subst, arith, eq-eqb, ne_eqb}
 use Rattle.std.proofs.lemmas.Bool.Decides.{nat_tests}
-use Rattle.std.proofs.lemmas.Bool.{both_ways}
-use Rattle.std.proofs.lemmas.List.{take_more}
-use Rattle.region.specs.Ranges.{covers, last_address}
+use Rattle.std.proofs.lemmas.Bool.{both_ways, not-false}
+use Rattle.std.proofs.lemmas.Option.{cond_some}
+use Rattle.std.proofs.lemmas.List.Sums.{sum_by-cons}
+use Rattle.region.specs.Ranges.{covers}
 use Rattle.region.specs.Regions.{Region, range_of, sound}
 use Rattle.region.specs.Grounds.{KeepsMeaning, Apart, Ascending, AllSound, holding, range_at}
+use Rattle.std.specs.List.{count_by}
+use Rattle.address.specs.Addresses.{difference}
 use Rattle.table.proofs.Tables.{none_first, next, second}
 use Rattle.collection.specs.Collections.{highest}
 use Rattle.frames.specs.Frames.{frame, frames, frame_fits, first_outside, well_shaped}
@@ -24,6 +27,16 @@ not_there start v a h = grind (arith, nat_tests)
 
 here : (start v a : ℕ) → start ≤ a → a < start + 4096 → covers (range_of (frame start v)) a ≡ true
 here start v a h l = grind (arith, nat_tests)
+
+-- where an address stands to the base
+
+pub offset_is : (a base off : ℕ) → Some off ≡ difference a base → (base ≤ a) × (base + off ≡ a)
+offset_is a base off e =
+    let q = cond_some (leb base a) (a - base) off (sym e) in
+    let l : base ≤ a = grind (arith, nat_tests, q.0) in (l, omega (arith, q.1))
+
+pub below_base : (a base : ℕ) → None ≡ difference a base → a < base
+below_base a base e = grind (arith, nat_tests)
 
 pub below_frames : (start : ℕ) (vs : List ℕ) (a : ℕ) → a < start → holding (frames start vs) a ≡ None
 below_frames start [] a h = refl
@@ -49,43 +62,36 @@ in_frames start (v ∷ vs) (suc n) a h l u =
     ∙ in_frames (start + 4096) vs n a (omega arith) (omega arith) (omega arith)
     ∙ ap (λ (s : ℕ). cond (eqb (get_or vs n 0) 0) None (Some (frame s (get_or vs n 0)))) z
 
+-- past the entries there is no frame
+pub past_entries : (base : ℕ) (vs : List ℕ) (a off : ℕ) → Some off ≡ difference a base → length vs ≤ off / 4096 → holding (frames base vs) a ≡ None
+past_entries base vs a off e h = let d = offset_is a base off e in past_frames base vs a (omega arith)
+
+-- the entry at the offset's index tells whether there is a frame
+pub at_entry : (base : ℕ) (vs : List ℕ) (a off v : ℕ) → Some off ≡ difference a base → off / 4096 < length vs → get_or vs (off / 4096) 0 ≡ v → holding (frames base vs) a ≡ cond (eqb v 0) None (Some (frame (a - off % 4096) v))
+at_entry base vs a off v e h g =
+    let d = offset_is a base off e in
+    let s : base + 4096 * (off / 4096) ≡ a - off % 4096 = omega arith in
+    in_frames base vs (off / 4096) a h (omega arith) (omega arith) ∙ (λ i. cond (eqb (g i) 0) None (Some (frame (s i) (g i))))
+
 -- how many are present
 
-abbrev pub present : List ℕ → ℕ
-present [] = 0
-present (v ∷ vs) = cond (eqb v 0) 0 1 + present vs
-
-pub length_frames : (start : ℕ) (vs : List ℕ) → length (frames start vs) ≡ present vs
+pub length_frames : (start : ℕ) (vs : List ℕ) → count_by (λ v. not (eqb v 0)) vs ≡ length (frames start vs)
 length_frames start [] = refl
-length_frames start (v ∷ vs) = go (eqb v 0) (length_frames (start + 4096) vs)
+length_frames start (v ∷ vs) = sum_by-cons (λ x. cond (not (eqb x 0)) 1 0) v vs ∙ go (eqb v 0) (length_frames (start + 4096) vs)
   where
-    go : (b : Bool) → length (frames (start + 4096) vs) ≡ present vs → length (cond b (frames (start + 4096) vs) (frame start v ∷ frames (start + 4096) vs)) ≡ cond b 0 1 + present vs
+    go : (b : Bool) → count_by (λ v. not (eqb v 0)) vs ≡ length (frames (start + 4096) vs) → cond (not b) 1 0 + count_by (λ v. not (eqb v 0)) vs ≡ length (cond b (frames (start + 4096) vs) (frame start v ∷ frames (start + 4096) vs))
     go true e = omega arith
     go false e = omega arith
-
-pub present_le : (vs : List ℕ) → present vs ≤ length vs
-present_le [] = omega arith
-present_le (v ∷ vs) = go (eqb v 0) (present_le vs)
-  where
-    go : (b : Bool) → present vs ≤ length vs → cond b 0 1 + present vs ≤ suc (length vs)
-    go true h = omega arith
-    go false h = omega arith
 
 -- how high the last one ends
 
 pub highest_none : (start : ℕ) (vs : List ℕ) → ((k : ℕ) → k < length vs → get_or vs k 0 ≡ 0) → highest (frames start vs) ≡ 0
 highest_none start [] a = refl
-highest_none start (v ∷ vs) a =
-    ap (λ (b : Bool). highest (cond b (frames (start + 4096) vs) (frame start v ∷ frames (start + 4096) vs))) (eq-eqb v 0 (a 0 (omega arith)))
-    ∙ highest_none (start + 4096) vs (λ k h. a (suc k) (omega arith))
+highest_none start (v ∷ vs) a = rw (eq-eqb v 0 (a 0 (omega arith))) (highest_none (start + 4096) vs (λ k h. a (suc k) (omega arith)))
 
 pub highest_frame : (start : ℕ) (vs : List ℕ) (n : ℕ) → start + 4096 * length vs ≤ 2 ^ 64 → n < length vs → (get_or vs n 0 ≡ 0 → ⊥) → ((k : ℕ) → n < k → k < length vs → get_or vs k 0 ≡ 0) → highest (frames start vs) ≡ start + 4096 * n + 4095
 highest_frame start [] n t h p a = absurd (omega arith)
-highest_frame start (v ∷ vs) zero t h p a =
-    let r = highest_none (start + 4096) vs (λ k l. a (suc k) (omega arith) (omega arith)) in
-    ap (λ (b : Bool). highest (cond b (frames (start + 4096) vs) (frame start v ∷ frames (start + 4096) vs))) (ne_eqb v 0 p)
-    ∙ ap (λ (m : ℕ). max (last_address (range_of (frame start v))) m) r
-    ∙ omega arith
+highest_frame start (v ∷ vs) zero t h p a = rw (ne_eqb v 0 p, highest_none (start + 4096) vs (λ k l. a (suc k) (omega arith) (omega arith))) (omega arith)
 highest_frame start (v ∷ vs) (suc n) t h p a =
     let r = highest_frame (start + 4096) vs n (omega arith) (omega arith) p (λ k l u. a (suc k) (omega arith) (omega arith)) in
     go (eqb v 0) r
@@ -93,13 +99,6 @@ highest_frame start (v ∷ vs) (suc n) t h p a =
     go : (b : Bool) → highest (frames (start + 4096) vs) ≡ start + 4096 + 4096 * n + 4095 → highest (cond b (frames (start + 4096) vs) (frame start v ∷ frames (start + 4096) vs)) ≡ start + 4096 * suc n + 4095
     go true r = r ∙ omega arith
     go false r = omega arith
-
-pub present_more : (vs : List ℕ) (i : ℕ) → i < length vs → present (take (i + 1) vs) ≡ present (take i vs) + cond (eqb (get_or vs i 0) 0) 0 1
-present_more vs i h = ap present (take_more vs i 0 h) ∙ tail (take i vs) (get_or vs i 0)
-  where
-    tail : (xs : List ℕ) (y : ℕ) → present (xs ++ y ∷ []) ≡ present xs + cond (eqb y 0) 0 1
-    tail [] y = omega arith
-    tail (x ∷ xs) y = let e = tail xs y in omega arith
 
 -- the frames keep their meaning
 
@@ -143,10 +142,6 @@ ends_by_top base vs e = grind (arith, nat_tests)
 pub frames_kept : (host base : ℕ) (vs : List ℕ) → host < 2 ^ 64 → well_shaped base vs ≡ true → first_outside host vs ≡ None → KeepsMeaning (record { host = host; regions = frames base vs })
 frames_kept host base vs b w o = (
   b,
-  sound_frames host base vs (ends_by_top base vs w) (λ k h. not_false (frame_fits host (get_or vs k 0)) (none_first (λ v. not (frame_fits host v)) 0 vs o k h)),
+  sound_frames host base vs (ends_by_top base vs w) (λ k h. not-false (frame_fits host (get_or vs k 0)) (none_first (λ v. not (frame_fits host v)) 0 vs o k h)),
   rises_ascends base (frames base vs) (rises_frames base vs),
 )
-  where
-    not_false : (c : Bool) → not c ≡ false → c ≡ true
-    not_false true q = refl
-    not_false false q = sym q

@@ -1,7 +1,7 @@
 -- Frame memory: what its entries mean and when they are refused. Assumes nothing.
-use Rattle.std.specs.Prelude.{ℕ, ◌+◌, ◌-◌, ◌*◌, ◌%◌, ◌^◌, Bool, cond, not, ◌&&◌, List, [], ◌∷◌, length, Some, Option, ◌==◌, nat_le}
+use Rattle.std.specs.Prelude.{ℕ, ◌+◌, ◌-◌, ◌*◌, ◌%◌, ◌^◌, Bool, cond, not, ◌&&◌, List, [], ◌∷◌, length, Some, Option, ◌==◌, nat_le, position}
 use Rattle.region.specs.Regions.{Region}
-use Rattle.table.specs.Questions.{first_index, bad_region}
+use Rattle.table.specs.Questions.{bad_region}
 use Rattle.table.specs.declared.error.GuestRegionCollectionError.{GuestRegionCollectionError}
 use Rattle.table.specs.declared.error.GuestRegionCollectionError.TheVariants.{BadRegion}
 
@@ -24,7 +24,7 @@ frame_fits host v = nat_le (4096 * v) host
 
 -- the index of the first entry whose frame does not
 abbrev pub first_outside : ℕ → List ℕ → Option ℕ
-first_outside host vs = first_index (λ v. not (frame_fits host v)) vs
+first_outside host vs = position (λ v. not (frame_fits host v)) vs
 
 -- what making frame memory is refused for
 abbrev pub frames_fault : ℕ → ℕ → List ℕ → Option GuestRegionCollectionError

@@ -1,15 +1,14 @@
 // Making frame memory, and asking it as a backend.
-ghost use Rattle.std.specs.Prelude.{◌≡◌, length, IfOk, Some, None, MatchResult};
-ghost use Rattle.address.specs.Addresses.{each};
+ghost use Rattle.std.specs.Prelude.{◌≡◌, ◌≢◌, ℕ, ◌*◌, ◌<◌, length, slice_index, Some, None, MatchOption, MatchResult};
 ghost use Rattle.region.specs.Regions.{shown};
 ghost use Rattle.region.specs.Slots.{slot_range, slot_place};
 ghost use Rattle.region.specs.Grounds.{holding};
 ghost use Rattle.collection.specs.Collections.{highest};
 ghost use Rattle.frames.specs.Frames.{frames, frames_fault, well_shaped, first_outside};
-ghost use Rattle.frames.specs.Memories.{frames_ground, LawfulFrames};
+ghost use Rattle.frames.specs.Memories.{frames_ground};
 
 use crate::memory::FrameMemory;
-use address::address::GuestAddress;
+use address::address::{Address, GuestAddress};
 use backend::backend::GuestMemoryBackend;
 use region::slot::{RamRegion, SlotRegion};
 use table::error::GuestRegionCollectionError;
@@ -28,16 +27,25 @@ fn is_well_shaped(base: GuestAddress, entries: &[u32]) -> bool
     base.0 <= u64::MAX - (FRAME * count as u64 - 1)
 }
 
+/// The end of a present frame in the host buffer, by its entry.
+fn host_end(entry: u32) -> u64
+    ensures { result ≡ 4096 * entry }
+{
+    FRAME * u64::from(entry)
+}
+
 /// The index of the first entry whose frame does not end within the host length.
 fn first_outside_index(entries: &[u32], host_len: u64) -> Option<usize>
     ensures { result ≡ first_outside host_len entries.now }
 {
-    for (i, entry) in entries.iter().enumerate() {
-        if FRAME * u64::from(*entry) > host_len {
-            return Some(i);
-        }
-    }
-    None
+    entries.iter().position(|entry| host_end(*entry) > host_len)
+}
+
+/// The index of the last entry whose frame is present.
+fn last_present(entries: &[u32]) -> Option<usize>
+    ensures { MatchOption result ((k : ℕ) → k < length entries.now → slice_index entries.now k ≡ 0) (λ n. (n < length entries.now) × (slice_index entries.now n ≢ 0) × ((k : ℕ) → n < k → k < length entries.now → slice_index entries.now k ≡ 0)) }
+{
+    entries.iter().rposition(|entry| *entry != 0)
 }
 
 impl<'a> FrameMemory<'a> {
@@ -49,7 +57,6 @@ impl<'a> FrameMemory<'a> {
         host_len: u64,
     ) -> Result<Self, GuestRegionCollectionError>
         ensures answer { MatchResult result (λ m. (frames_fault host_len base.0 entries.now ≡ None) × (m.base ≡ base) × (m.entries.now ≡ entries.now) × (m.host_len ≡ host_len)) (λ e. frames_fault host_len base.0 entries.now ≡ Some e) }
-        ensures lawful { IfOk result (λ m. LawfulFrames m) }
     {
         if !is_well_shaped(base, entries) {
             return Err(GuestRegionCollectionError::BadRegion(0));
@@ -63,70 +70,40 @@ impl<'a> FrameMemory<'a> {
             }),
         }
     }
-
-    /// The number of present frames.
-    pub fn num_regions(&self) -> usize
-        ensures { result ≡ length (frames_ground self.now).regions }
-    {
-        let entries = self.entries;
-        let mut count = 0;
-        for entry in entries {
-            if *entry != 0 {
-                count += 1;
-            }
-        }
-        count
-    }
-
-    /// The last address of the last present frame; 0 where none is present.
-    pub fn last_addr(&self) -> GuestAddress
-        ensures { LawfulFrames self.now → result.0 ≡ highest (frames_ground self.now).regions }
-    {
-        let entries = self.entries;
-        for n in (0..entries.len()).rev() {
-            if entries[n] != 0 {
-                return GuestAddress(
-                    self.base
-                        .0
-                        .saturating_add((n as u64).saturating_mul(FRAME))
-                        .saturating_add(FRAME - 1),
-                );
-            }
-        }
-        GuestAddress(0)
-    }
 }
 
 impl<'a> GuestMemoryBackend for FrameMemory<'a> {
     ghost meant = { frames_ground };
 
-    ghost lawful = { LawfulFrames };
-
-    ghost keeps = { λ m h. h.1 };
+    ghost keeps = { λ m. m.lawful };
 
     fn host_len(&self) -> u64 {
         self.host_len
     }
 
+    /// The number of present frames.
+    fn num_regions(&self) -> usize {
+        self.entries.iter().filter(|entry| **entry != 0).count()
+    }
+
+    /// The last address of the last present frame; 0 where none is present.
+    fn last_addr(&self) -> GuestAddress {
+        match last_present(self.entries) {
+            Some(n) => GuestAddress(self.base.0 + FRAME * n as u64 + (FRAME - 1)),
+            None => GuestAddress(0),
+        }
+    }
+
     fn region_at(&self, addr: GuestAddress) -> Option<SlotRegion> {
-        let entries = self.entries;
-        if addr.0 < self.base.0 {
-            return None;
-        }
-        let offset = addr.0 - self.base.0;
-        let n = offset / FRAME;
-        if n >= entries.len() as u64 {
-            return None;
-        }
-        let entry = entries[n as usize];
+        let offset = addr.checked_offset_from(self.base)?;
+        let entry = *self.entries.get((offset / FRAME) as usize)?;
         if entry == 0 {
             return None;
         }
-        let start = GuestAddress(addr.0 - offset % FRAME);
         Some(SlotRegion::Ram(RamRegion {
-            start,
+            start: GuestAddress(addr.0 - offset % FRAME),
             len: FRAME,
-            place: FRAME * (u64::from(entry) - 1),
+            place: host_end(entry) - FRAME,
         }))
     }
 }

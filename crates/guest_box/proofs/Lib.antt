@@ -1,3 +1,1 @@
-pub mod Answered
-pub mod Kept
 pub mod Told

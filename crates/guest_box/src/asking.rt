@@ -1,7 +1,8 @@
 // What a box is asked: about its memory, and about its host bytes.
-ghost use Rattle.std.specs.Prelude.{◌≡◌, IfOk, vec_len};
+ghost use Rattle.std.specs.Prelude.{◌≡◌, length};
 ghost use Rattle.pieces.specs.Pieces.{piece_bytes};
 ghost use Rattle.answers.specs.declared.Answer.TheVariants.{Number};
+ghost use Rattle.answers.specs.Failures.{Settles};
 ghost use Rattle.asks.specs.Asked.{fnv, Shown};
 ghost use Rattle.survey.specs.Questions.{AnswersTo};
 ghost use Rattle.guest_box.specs.Memories.{ground_held};
@@ -9,53 +10,50 @@ ghost use Rattle.guest_box.specs.Memories.{ground_held};
 use crate::guest_box::GuestBox;
 use crate::memory::Memory;
 use answers::Answer;
+use answers::failure::Failure;
 use collection::collection::GuestRegionCollection;
 use frames::memory::FrameMemory;
+use pieces::piece::Piece;
 use region::region::AddressRange;
 use region::slot::SlotRegion;
-use std::alloc::{AllocError, Global};
+use std::alloc::Global;
 use survey::question::Question;
 use survey::surveyed::ask_memory;
 
 impl GuestBox {
     /// The answer of the memory, which is made anew from its parts; an error where there is none yet.
-    pub fn ask(&self, heap: Global, question: Question) -> Result<Answer, AllocError>
-        ensures { IfOk result (λ x. AnswersTo (ground_held (vec_len self.now.host) self.now.memory) question x) }
+    pub fn ask(&self, heap: Global, question: Question) -> Result<Answer, Failure>
+        ensures { Settles result (λ x. AnswersTo (ground_held (length self.now.host) self.now.memory) question x) }
     {
         let host_len = self.host.len() as u64;
+        // the parts passed their questions once, so each `unwrap` is proved to find what they make
         match &self.memory {
-            Memory::Absent => Ok(Answer::Error),
+            Memory::Absent => Err(Failure::Error),
             Memory::Regions(regions) => {
                 let table = regions.as_slice();
-                match GuestRegionCollection::from_edited(table, table.len(), host_len) {
-                    Ok(collection) => ask_memory(heap, &collection, question),
-                    Err(_) => Ok(Answer::Error),
-                }
+                let made = GuestRegionCollection::from_edited(table, table.len(), host_len);
+                ask_memory(heap, &made.unwrap(), question)
             }
-            Memory::Frames(base, entries) => match FrameMemory::new(
-                *base,
-                entries.as_slice(),
-                host_len,
-            ) {
-                Ok(memory) => ask_memory(heap, &memory, question),
-                Err(_) => Ok(Answer::Error),
-            },
+            Memory::Frames(base, entries) => {
+                let made = FrameMemory::new(*base, entries.as_slice(), host_len);
+                ask_memory(heap, &made.unwrap(), question)
+            }
         }
     }
 
     /// The bytes of a piece of the host buffer.
-    pub fn bytes(&self, heap: Global, place: u64, count: u64) -> Result<Answer, AllocError>
-        ensures { IfOk result (λ x. Shown (piece_bytes (vec_len self.now.host) self.now.host.items (record { place = place; len = count })) x) }
+    pub fn bytes(&self, heap: Global, piece: Piece) -> Result<Answer, Failure>
+        ensures { Settles result (λ x. Shown (piece_bytes (length self.now.host) self.now.host piece) x) }
     {
         let memory: GuestRegionCollection<'_, SlotRegion> = GuestRegionCollection::new(
             self.host.len() as u64,
         );
-        asks::host::bytes(heap, &memory, self.host.as_slice(), place, count)
+        asks::host::bytes(heap, &memory, self.host.as_slice(), piece)
     }
 
     /// The hash of the whole host buffer.
     pub fn digest(&self) -> Answer
-        ensures { result ≡ Number (fnv 0xcbf29ce484222325 self.now.host.items) }
+        ensures { result ≡ Number (fnv 0xcbf29ce484222325 self.now.host) }
     {
         Answer::Number(asks::host::digest(self.host.as_slice()))
     }

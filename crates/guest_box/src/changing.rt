@@ -1,46 +1,38 @@
 // Inserting a region into the collection of the box, and removing one.
-ghost use Rattle.std.specs.Prelude.{◌≡◌, IfOk, vec_len};
+ghost use Rattle.std.specs.Prelude.{◌≡◌, length};
+ghost use Rattle.answers.specs.Failures.{Settles};
 ghost use Rattle.guest_box.specs.Changes.{insert_answer, insert_held, remove_answer, remove_held};
-ghost use Rattle.guest_box.specs.Memories.{held};
+ghost use Rattle.guest_box.specs.Memories.{with_memory};
 
 use crate::guest_box::GuestBox;
 use crate::memory::Memory;
-use answers::{Answer, Span};
-use region::region::{AddressRange, GuestMemoryRegion};
+use answers::Answer;
+use answers::failure::Failure;
+use asks::memory::span_of;
+use region::region::GuestMemoryRegion;
 use region::slot::SlotRegion;
 use regions::{with_region, without_region};
-use std::alloc::{AllocError, Global};
-use table::error::GuestRegionCollectionError;
+use std::alloc::Global;
 
 impl GuestBox {
     /// Inserts a region, the table for the new collection having `room` entries. An error where the
     /// memory is no collection.
-    pub fn insert(
-        &mut self,
-        heap: Global,
-        room: u64,
-        region: SlotRegion,
-    ) -> Result<Answer, AllocError>
-        ensures { IfOk result (λ x. (x ≡ insert_answer (vec_len self.old.host) room (held self.old.memory) region) × (self.new.host.items ≡ self.old.host.items) × (self.new.pending.items ≡ self.old.pending.items) × (held self.new.memory ≡ insert_held (vec_len self.old.host) room (held self.old.memory) region)) }
+    pub fn insert(&mut self, heap: Global, room: u64, region: SlotRegion) -> Result<Answer, Failure>
+        ensures { Settles result (λ x. (x ≡ insert_answer (length self.old.host) room self.old.memory region) × (self.new ≡ with_memory self.old (insert_held (length self.old.host) room self.old.memory region))) }
     {
         let Memory::Regions(regions) = &self.memory else {
-            return Ok(Answer::Error);
+            return Err(Failure::Error);
         };
-        let edited = with_region(
+        let inserted = with_region(
             heap,
             regions.as_slice(),
             self.host.len() as u64,
             room,
             region,
         )?;
-        match edited {
-            Ok(inserted) => {
-                let count = inserted.len() as u64;
-                self.memory = Memory::Regions(inserted);
-                Ok(Answer::Number(count))
-            }
-            Err(error) => Ok(Answer::Refused(error.into())),
-        }
+        let count = inserted.len() as u64;
+        self.memory = Memory::Regions(inserted);
+        Ok(Answer::Number(count))
     }
 
     /// Removes the region of exactly this start and length, likewise.
@@ -50,13 +42,13 @@ impl GuestBox {
         room: u64,
         start: u64,
         len: u64,
-    ) -> Result<Answer, AllocError>
-        ensures { IfOk result (λ x. (x ≡ remove_answer room (held self.old.memory) start len) × (self.new.host.items ≡ self.old.host.items) × (self.new.pending.items ≡ self.old.pending.items) × (held self.new.memory ≡ remove_held room (held self.old.memory) start len)) }
+    ) -> Result<Answer, Failure>
+        ensures { Settles result (λ x. (x ≡ remove_answer room self.old.memory start len) × (self.new ≡ with_memory self.old (remove_held room self.old.memory start len))) }
     {
         let Memory::Regions(regions) = &self.memory else {
-            return Ok(Answer::Error);
+            return Err(Failure::Error);
         };
-        let edited = without_region(
+        let (left, removed) = without_region(
             heap,
             regions.as_slice(),
             self.host.len() as u64,
@@ -64,20 +56,8 @@ impl GuestBox {
             start,
             len,
         )?;
-        match edited {
-            Ok((left, removed)) => {
-                let count = left.len() as u64;
-                self.memory = Memory::Regions(left);
-                Ok(Answer::Removed(
-                    count,
-                    Span {
-                        start: removed.start_addr().0,
-                        len: removed.len(),
-                    },
-                    removed.host_place(),
-                ))
-            }
-            Err(error) => Ok(Answer::Refused(error.into())),
-        }
+        let count = left.len() as u64;
+        self.memory = Memory::Regions(left);
+        Ok(Answer::Removed(count, span_of(&removed), removed.host_place()))
     }
 }

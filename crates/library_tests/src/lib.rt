@@ -43,18 +43,8 @@ mod tests {
         (refusal.number(), detail)
     }
 
-    fn raw(addr: Option<GuestAddress>) -> Option<u64> {
-        match addr {
-            Some(addr) => Some(addr.0),
-            None => None,
-        }
-    }
-
-    fn offset(addr: Option<MemoryRegionAddress>) -> Option<u64> {
-        match addr {
-            Some(addr) => Some(addr.0),
-            None => None,
-        }
+    fn raw<A: Address>(addr: Option<A>) -> Option<u64> {
+        addr.map(|addr| addr.raw_value())
     }
 
     #[test]
@@ -69,7 +59,7 @@ mod tests {
         ] {
             assert_eq!(rt; raw(GuestAddress(addr).checked_add(other)), sum);
             assert_eq!(rt; raw(GuestAddress(addr).checked_sub(other)), difference);
-            assert_eq!(rt; offset(MemoryRegionAddress(addr).checked_add(other)), sum);
+            assert_eq!(rt; raw(MemoryRegionAddress(addr).checked_add(other)), sum);
             assert_eq!(rt;
                 GuestAddress(addr).checked_offset_from(GuestAddress(other)),
                 difference
@@ -99,10 +89,9 @@ mod tests {
     }
 
     fn of_raw(raw: u64) -> Result<u8, (u8, u64)> {
-        match Permissions::from_repr(raw) {
-            Ok(permissions) => Ok(permissions.repr()),
-            Err(error) => Err(told(error.into())),
-        }
+        Permissions::try_from(raw)
+            .map(|permissions| u8::from(permissions))
+            .map_err(|error| told(error.into()))
     }
 
     #[test]
@@ -126,9 +115,9 @@ mod tests {
         ] {
             assert_eq!(rt; of_raw(raw), answer);
         }
-        assert_eq!(rt; Permissions::Read.union(Permissions::Write).repr(), 3);
+        assert_eq!(rt; u8::from(Permissions::Read.union(Permissions::Write)), 3);
         assert_eq!(rt;
-            Permissions::Read.intersection(Permissions::Write).repr(),
+            u8::from(Permissions::Read.intersection(Permissions::Write)),
             0
         );
     }
@@ -145,7 +134,7 @@ mod tests {
             (TOP - 0xfff, Some(0)),
             (TOP - 0x1000, None),
         ] {
-            assert_eq!(rt; offset(last.to_region_addr(GuestAddress(addr))), answer);
+            assert_eq!(rt; raw(last.to_region_addr(GuestAddress(addr))), answer);
         }
         for (base, other, answer) in [
             (0xfff, 0, Some(0xfff)),
@@ -154,29 +143,16 @@ mod tests {
             (2, TOP, None),
         ] {
             assert_eq!(rt;
-                offset(last.checked_offset(MemoryRegionAddress(base), other)),
+                raw(last.checked_offset(MemoryRegionAddress(base), other)),
                 answer
             );
         }
-        assert_eq!(rt;
-            offset(last.check_address(MemoryRegionAddress(0x1000))),
-            None
-        );
+        assert_eq!(rt; raw(last.check_address(MemoryRegionAddress(0x1000))), None);
     }
 
+    // What a call is refused for; (0, 0) where it is not.
     fn refused<T: Drop>(answer: Result<T, GuestRegionCollectionError>) -> (u8, u64) {
-        match answer {
-            Ok(_) => (0, 0),
-            Err(error) => told(error.into()),
-        }
-    }
-
-    // What making a collection of RAM is refused for; (0, 0) where it is made.
-    fn made(table: &[RamRegion], host_len: u64) -> (u8, u64) {
-        match GuestRegionCollection::from_regions(table, host_len) {
-            Ok(_) => (0, 0),
-            Err(error) => told(error.into()),
-        }
+        answer.err().map_or((0, 0), |error| told(error.into()))
     }
 
     #[test]
@@ -199,17 +175,15 @@ mod tests {
             (&[ram(TOP - 0xfff, 0x1001, 0)], (4, 0)),
         ];
         for (table, refusal) in cases {
-            assert_eq!(rt; made(table, 0x2000), refusal);
+            assert_eq!(rt;
+                refused(GuestRegionCollection::from_regions(table, 0x2000)),
+                refusal
+            );
         }
     }
 
     fn starts(table: &[RamRegion; 4]) -> [u64; 4] {
-        [
-            table[0].start.0,
-            table[1].start.0,
-            table[2].start.0,
-            table[3].start.0,
-        ]
+        table.map(|region| region.start.0)
     }
 
     #[test]
@@ -240,11 +214,7 @@ mod tests {
             (3, 0)
         );
         assert_eq!(rt; starts(&dest), [5, 6, 7, 8]);
-        let count = match memory.insert_region(new, &mut dest) {
-            Ok(count) => count,
-            Err(_) => 0,
-        };
-        assert_eq!(rt; count, 3);
+        assert_eq!(rt; memory.insert_region(new, &mut dest).ok(), Some(3));
         assert_eq!(rt; starts(&dest), [0x1000, 0x2000, 0x4000, 8]);
         assert_eq!(rt; dest[1].place, 0x2000);
         assert_eq!(rt;
@@ -269,10 +239,10 @@ mod tests {
         len: u64,
         dest: &mut [RamRegion],
     ) -> Result<(usize, u64), (u8, u64)> {
-        match memory.remove_region(GuestAddress(start), len, dest) {
-            Ok((count, region)) => Ok((count, region.start.0)),
-            Err(error) => Err(told(error.into())),
-        }
+        memory
+            .remove_region(GuestAddress(start), len, dest)
+            .map(|(count, region)| (count, region.start.0))
+            .map_err(|error| told(error.into()))
     }
 
     #[test]
@@ -307,18 +277,16 @@ mod tests {
 
     // The start of the region that holds an address.
     fn found<R: GuestMemoryRegion>(memory: &GuestRegionCollection<R>, addr: u64) -> Option<u64> {
-        match memory.find_region(GuestAddress(addr)) {
-            Some(region) => Some(region.start_addr().0),
-            None => None,
-        }
+        memory
+            .find_region(GuestAddress(addr))
+            .map(|region| region.start_addr().0)
     }
 
     // The start of the region that holds an address, and the host place of the address.
     fn resolved<M: GuestMemoryBackend>(memory: &M, addr: u64) -> Option<(u64, Option<u64>)> {
-        match memory.resolve(GuestAddress(addr)) {
-            Some((region, place)) => Some((region.start_addr().0, place)),
-            None => None,
-        }
+        memory
+            .resolve(GuestAddress(addr))
+            .map(|(region, place)| (region.start_addr().0, place))
     }
 
     #[test]
@@ -386,14 +354,6 @@ mod tests {
         Ok(())
     }
 
-    // What making frame memory is refused for; (0, 0) where it is made.
-    fn framed(base: u64, entries: &[u32], host_len: u64) -> (u8, u64) {
-        match FrameMemory::new(GuestAddress(base), entries, host_len) {
-            Ok(_) => (0, 0),
-            Err(error) => told(error.into()),
-        }
-    }
-
     #[test]
     fn refused_frames(rt: HostRuntime) {
         let cases: [(u64, &[u32], u64, (u8, u64)); 9] = [
@@ -408,7 +368,10 @@ mod tests {
             (0, &[2, 0, 3, 4], 0x4000, (0, 0)),
         ];
         for (base, entries, host_len, refusal) in cases {
-            assert_eq!(rt; framed(base, entries, host_len), refusal);
+            assert_eq!(rt;
+                refused(FrameMemory::new(GuestAddress(base), entries, host_len)),
+                refusal
+            );
         }
     }
 
@@ -453,11 +416,10 @@ mod tests {
         cursor: &mut PhysicalCursor,
         memory: &M,
     ) -> Result<Option<(u64, u64)>, (u8, u64)> {
-        match cursor.draw(memory) {
-            Ok(Some(piece)) => Ok(Some((piece.place, piece.len))),
-            Ok(None) => Ok(None),
-            Err(error) => Err(told(error.into())),
-        }
+        cursor
+            .draw(memory)
+            .map(|piece| piece.map(|piece| (piece.place, piece.len)))
+            .map_err(|error| told(error.into()))
     }
 
     #[test]
@@ -523,10 +485,9 @@ mod tests {
     // The length and the first byte of a piece, or the refusal.
     fn bytes(host: &[u8], place: u64, len: u64) -> Result<(usize, Option<u8>), (u8, u64)> {
         let memory: GuestRegionCollection<RamRegion> = GuestRegionCollection::new(8);
-        match bytes_of(&memory, host, Piece { place, len }) {
-            Ok(part) => Ok((part.len(), part.first().copied())),
-            Err(error) => Err(told(error.into())),
-        }
+        bytes_of(&memory, host, Piece { place, len })
+            .map(|part| (part.len(), part.first().copied()))
+            .map_err(|error| told(error.into()))
     }
 
     #[test]

@@ -1,19 +1,19 @@
 -- A draw from a backend that keeps its meaning: the region that is found holds the address and is
 -- sound, so none of the guards refuses, and the piece is the longest.
-use Rattle.std.proofs.Common.{◌≡◌, ℕ, suc, ◌+◌, ◌-◌, ◌^◌, ◌<◌, ◌≤◌, min, Bool, true, false, cond, eqb, leb, ◌⊎◌, List, [], ◌∷◌, map, length, Some, None, Ok, Err, Option, sym, refl, ap, ◌∙◌, subst, inl, inr, ⊎_elim, arith}
+use Rattle.std.proofs.Common.{◌≡◌, ℕ, ◌+◌, ◌-◌, ◌^◌, ◌<◌, ◌≤◌, min, Bool, true, false, cond, eqb, leb, map, length, Some, None, Ok, Err, Option, sym, refl, ap, ◌∙◌, arith, slice_get, option_map, option_and_then}
 use Rattle.std.proofs.lemmas.List.{length-map}
-use Rattle.address.specs.Addresses.{each}
+use Rattle.std.proofs.lemmas.Option.{none-some, same_Some, slice_get-get_or}
 use Rattle.region.specs.Ranges.{Range, covers, offset_of}
 use Rattle.region.specs.Regions.{Region, range_of, sound}
-use Rattle.region.specs.Grounds.{Ground, KeepsMeaning, Ascending, holding, range_at, region_at}
-use Rattle.table.proofs.Tables.{found_at}
+use Rattle.region.specs.Grounds.{Ground, KeepsMeaning, holding}
+use Rattle.table.proofs.Tables.{covers_here, covers_parts, found_at}
 use Rattle.table.proofs.Made.{at_range}
-use Rattle.table.proofs.Found.{holding_at}
+use Rattle.table.proofs.Found.{find_place, held_at}
 use Rattle.backend.specs.Resolution.{place_in}
-use Rattle.backend.proofs.Held.{held, held_range, held_placed}
+use Rattle.backend.proofs.Held.{held, held_placed}
 use Rattle.pieces.specs.declared.piece.Piece.{Piece}
 use Rattle.pieces.specs.declared.error.GuestMemoryError.TheVariants.{GuestAddressOverflow}
-use Rattle.pieces.specs.Pieces.{drawn, drawn_in, placed_piece, spot_in, Longest}
+use Rattle.pieces.specs.Pieces.{drawn, drawn_in, placed_piece, Longest}
 
 -- what is known of a region that was found
 pub record Holder (g : Ground) (a : ℕ) (r : Region) : Type 0 where
@@ -25,7 +25,7 @@ pub record Holder (g : Ground) (a : ℕ) (r : Region) : Type 0 where
 pub found : (g : Ground) → KeepsMeaning g → (a : ℕ) (r : Region) → Some r ≡ holding g.regions a → Holder g a r
 found g k a r e =
     let h = held g.host g.regions a r k.1 (sym e) in
-    let q = held_range r a h.1 in
+    let q = covers_parts (range_of r) a h.1 in
     record { low = q.0; high = q.1; sure = h.0; cover = h.1 }
 
 -- the bytes of a held region end within the host buffer
@@ -33,38 +33,23 @@ pub ends : (g : Ground) (a : ℕ) (r : Region) → Holder g a r → (p : ℕ) �
 ends g a r h p e = held_placed g.host r p h.sure e
 
 -- a region holds each of its own addresses
-index_of : (rs : List Region) (a : ℕ) (r : Region) → holding rs a ≡ Some r → (k : ℕ) × (k < length rs) × (region_at rs k ≡ r)
-index_of [] a r e = let z : ◌≡◌ {A = ℕ} 0 1 = cc in absurd (omega arith)
-index_of (x ∷ xs) a r e = ⊎_elim (λ (q : x ≡ r). (0, omega arith, q)) (λ (q : holding xs a ≡ Some r). let i = index_of xs a r q in (suc i.0, omega (arith, i.1), i.2)) (first (covers (range_of x) a) (holding xs a) e)
-  where
-    first : (b : Bool) (h : Option Region) → cond b (Some x) h ≡ Some r → (x ≡ r) ⊎ (h ≡ Some r)
-    first true h q = inl (cc)
-    first false h q = inr q
-
 pub same_region : (g : Ground) → KeepsMeaning g → (a b : ℕ) (r : Region) → Some r ≡ holding g.regions a → r.start ≤ b → b < r.start + r.len → holding g.regions b ≡ Some r
 same_region g k a b r e lo hi =
     let rs = g.regions in
-    let i = index_of rs a r (sym e) in
-    let m = length-map rs range_of in
-    let at : range_at (map range_of rs) i.0 ≡ range_of r = at_range rs i.0 ∙ ap range_of i.2 in
-    let s : (range_at (map range_of rs) i.0).start ≡ r.start = ap (λ (x : Range). x.start) at in
-    let n : (range_at (map range_of rs) i.0).len ≡ r.len = ap (λ (x : Range). x.len) at in
-    holding_at rs b
-    ∙ ap (each (region_at rs)) (found_at (map range_of rs) (subst (Ascending (map range_of rs)) (sym m) k.2) i.0 b (omega (arith, i.1)) (omega arith) (omega arith))
+    let i = held_at rs a r (sym e) in
+    let here = ap (λ (x : Range). covers x b) (at_range rs i.0 ∙ ap range_of i.2) ∙ covers_here (range_of r) b lo hi in
+    find_place range_of (λ (x : Range). covers x b) rs
+    ∙ ap (option_and_then (slice_get rs)) (found_at (map range_of rs) (length rs) (length-map rs range_of) k.2 i.0 b i.1 here)
+    ∙ slice_get-get_or rs i.0 (record { start = 0; len = 0; place = None }) i.1
     ∙ ap (λ (x : Region). Some x) i.2
 
 -- the guards do not refuse
 
 pub inside : (r : Region) (a : ℕ) → covers (range_of r) a ≡ true → None ≡ offset_of (range_of r) a → ⊥
-inside r a e q =
-    let w : ◌≡◌ {A = Option ℕ} None (Some (a - r.start)) = q ∙ ap (λ (b : Bool). cond {A = Option ℕ} b (Some (a - r.start)) None) e in
-    let z : ◌≡◌ {A = ℕ} 0 1 = cc in
-    omega arith
+inside r a e q = none-some (a - r.start) (rw e at q)
 
 pub offset_is : (r : Region) (a off : ℕ) → covers (range_of r) a ≡ true → Some off ≡ offset_of (range_of r) a → off ≡ a - r.start
-offset_is r a off e q =
-    let w : ◌≡◌ {A = Option ℕ} (Some off) (Some (a - r.start)) = q ∙ ap (λ (b : Bool). cond {A = Option ℕ} b (Some (a - r.start)) None) e in
-    cc
+offset_is r a off e q = same_Some off (a - r.start) (rw e at q)
 
 -- the piece is the longest
 
@@ -76,33 +61,30 @@ module _ (g : Ground) (k : KeepsMeaning g) (a n : ℕ) (p : Piece) where
       record {
         bytes = λ i l.
             let s : q + (a + i - r.start) ≡ p.place + i = omega (arith, h.low) in
-            ap (spot_in (a + i)) (in_r i l) ∙ ap (each (λ (m : ℕ). m + (a + i - r.start))) w ∙ ap (λ (m : ℕ). Some m) s;
+            ap (option_and_then (λ (x : Region). place_in x (a + i))) (in_r i l) ∙ ap (option_map (λ (m : ℕ). m + (a + i - r.start))) w ∙ ap (λ (m : ℕ). Some m) s;
         region = λ i l. in_r i l ∙ e;
         longest = λ l same.
-            let b = held_range r (a + p.len) (held g.host g.regions (a + p.len) r k.1 (same ∙ sym e)).1 in
+            let b = covers_parts (range_of r) (a + p.len) (held g.host g.regions (a + p.len) r k.1 (same ∙ sym e)).1 in
             omega (arith, b.1, h.low, h.high);
       }
 
   pub pieced : Ok (Some p) ≡ drawn g a n → Longest g a n p
   pieced e = at_end (eqb n 0) refl e
     where
-      no : ◌≡◌ {A = ℕ} 0 1 → Longest g a n p
-      no z = absurd (omega arith)
-
-      in_place : (r : Region) → Some r ≡ holding g.regions a → (o : Option ℕ) → r.place ≡ o → Ok (Some p) ≡ placed_piece (each (λ (m : ℕ). m + (a - r.start)) o) (min n (r.start + r.len - a)) → Longest g a n p
-      in_place r h None w q = no (cc)
+      in_place : (r : Region) → Some r ≡ holding g.regions a → (o : Option ℕ) → r.place ≡ o → Ok (Some p) ≡ placed_piece (option_map (λ (m : ℕ). m + (a - r.start)) o) (min n (r.start + r.len - a)) → Longest g a n p
+      in_place r h None w q = absurd (cc)
       in_place r h (Some m) w q =
           let same : p ≡ record { place = m + (a - r.start); len = min n (r.start + r.len - a) } = cc in
           longest_in r h m w (ap (λ (x : Piece). x.place) same) (ap (λ (x : Piece). x.len) same)
 
       in_step : (r : Region) → Some r ≡ holding g.regions a → (b : Bool) → Ok (Some p) ≡ cond b (placed_piece (place_in r a) (min n (r.start + r.len - a))) (Err GuestAddressOverflow) → Longest g a n p
       in_step r h true q = in_place r h r.place refl q
-      in_step r h false q = no (cc)
+      in_step r h false q = absurd (cc)
 
       in_region : (o : Option Region) → o ≡ holding g.regions a → Ok (Some p) ≡ drawn_in a n o → Longest g a n p
-      in_region None h q = no (cc)
+      in_region None h q = absurd (cc)
       in_region (Some r) h q = in_step r h (leb (a + min n (r.start + r.len - a)) (2 ^ 64)) q
 
       at_end : (b : Bool) → eqb n 0 ≡ b → Ok (Some p) ≡ cond b (Ok None) (drawn_in a n (holding g.regions a)) → Longest g a n p
-      at_end true h q = no (cc)
+      at_end true h q = absurd (cc)
       at_end false h q = in_region (holding g.regions a) refl q

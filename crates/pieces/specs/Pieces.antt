@@ -1,5 +1,5 @@
 -- Drawing the pieces of a range, and the bytes of a piece. Assumes nothing.
-use Rattle.std.specs.Prelude.{◌≡◌, ℕ, ◌+◌, ◌-◌, ◌%◌, ◌^◌, ◌<◌, ◌≤◌, min, cond, List, length, take, drop, Some, None, Ok, Err, Option, Result, ◌==◌, ◌≢◌, nat_le}
+use Rattle.std.specs.Prelude.{◌≡◌, ℕ, ◌+◌, ◌-◌, ◌%◌, ◌^◌, ◌<◌, ◌≤◌, min, cond, List, length, take, drop, Some, None, Ok, Err, Option, Result, ◌==◌, ◌≢◌, nat_le, option_and_then}
 use Rattle.std.specs.Borrow.{Bor}
 use Rattle.address.specs.declared.address.GuestAddress.{GuestAddress}
 use Rattle.region.specs.Regions.{Region}
@@ -45,12 +45,8 @@ abbrev pub Within : ℕ → ℕ → Piece → Type 0
 Within host n p = (1 ≤ p.len) × (p.len ≤ n) × (p.place + p.len ≤ host)
 
 -- the host place of an address, where it has one
-abbrev pub spot_in : ℕ → Option Region → Option ℕ
-spot_in a None = None
-spot_in a (Some r) = place_in r a
-
 abbrev pub spot : Ground → ℕ → Option ℕ
-spot g a = spot_in a (holding g.regions a)
+spot g a = option_and_then (λ r. place_in r a) (holding g.regions a)
 
 -- the longest piece from an address that stays in the range and in one region: each of its bytes is
 -- the host byte of its address, all addresses lie in one region, and a further one would not

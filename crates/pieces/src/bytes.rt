@@ -18,8 +18,9 @@ pub fn bytes_of<'a, M: GuestMemoryBackend>(
     if host.len() as u64 != memory.host_len() {
         return Err(GuestMemoryError::BadHost);
     }
-    if piece.place > host.len() as u64 || piece.len > host.len() as u64 - piece.place {
-        return Err(GuestMemoryError::InvalidBackendAddress);
-    }
-    Ok(&host[piece.place as usize..(piece.place + piece.len) as usize])
+    piece
+        .place
+        .checked_add(piece.len)
+        .and_then(|end| host.get(piece.place as usize..end as usize))
+        .ok_or(GuestMemoryError::InvalidBackendAddress)
 }

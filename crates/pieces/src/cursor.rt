@@ -16,8 +16,8 @@ fn ends_within(place: u64, offset: u64, len: u64, host_len: u64) -> bool
     place <= host_len && offset <= host_len - place && len <= host_len - place - offset
 }
 
-/// The piece of at most `count` bytes, at least one, from the address on. Where a backend does not keep
-/// its meaning the comparisons refuse what would lie outside the region or the host buffer.
+/// The piece of at most `count` bytes, at least one, from the address on. That it ends within the host
+/// buffer is asked though no backend that keeps its meaning is refused there.
 fn piece_at<M: GuestMemoryBackend>(
     memory: &M,
     addr: GuestAddress,
@@ -25,21 +25,21 @@ fn piece_at<M: GuestMemoryBackend>(
 ) -> Result<Piece, GuestMemoryError>
     requires { 1 ≤ count }
     ensures within { IfOk result (λ p. Within (M.GuestMemoryBackend.meant memory.now).host count p) }
-    ensures exact { M.GuestMemoryBackend.lawful memory.now → some_piece result ≡ drawn (M.GuestMemoryBackend.meant memory.now) addr.0 count }
+    ensures exact { some_piece result ≡ drawn (M.GuestMemoryBackend.meant memory.now) addr.0 count }
 {
-    let Some(region) = memory.region_at(addr) else {
-        return Err(GuestMemoryError::InvalidGuestAddress(addr));
-    };
-    let Some(MemoryRegionAddress(offset)) = region.to_region_addr(addr) else {
-        return Err(GuestMemoryError::InvalidGuestAddress(addr));
-    };
+    let region = memory
+        .region_at(addr)
+        .ok_or(GuestMemoryError::InvalidGuestAddress(addr))?;
+    let MemoryRegionAddress(offset) = region
+        .to_region_addr(addr)
+        .ok_or(GuestMemoryError::InvalidGuestAddress(addr))?;
     let len = count.min(region.len() - offset);
     if len - 1 > u64::MAX - addr.0 {
         return Err(GuestMemoryError::GuestAddressOverflow);
     }
-    let Some(place) = region.host_place() else {
-        return Err(GuestMemoryError::HostAddressNotAvailable);
-    };
+    let place = region
+        .host_place()
+        .ok_or(GuestMemoryError::HostAddressNotAvailable)?;
     if !ends_within(place, offset, len, memory.host_len()) {
         return Err(GuestMemoryError::HostAddressNotAvailable);
     }
@@ -65,8 +65,8 @@ impl PhysicalCursor {
     ) -> Result<Option<Piece>, GuestMemoryError>
         ensures cursor { self.new ≡ left_after self.old result }
         ensures within { IfOk result (λ o. IfSome o (λ p. Within (M.GuestMemoryBackend.meant memory.now).host self.old.count p)) }
-        ensures answer { M.GuestMemoryBackend.lawful memory.now → result ≡ drawn (M.GuestMemoryBackend.meant memory.now) self.old.addr.0 self.old.count }
-        ensures longest { M.GuestMemoryBackend.lawful memory.now → IfOk result (λ o. IfSome o (λ p. Longest (M.GuestMemoryBackend.meant memory.now) self.old.addr.0 self.old.count p)) }
+        ensures answer { result ≡ drawn (M.GuestMemoryBackend.meant memory.now) self.old.addr.0 self.old.count }
+        ensures longest { IfOk result (λ o. IfSome o (λ p. Longest (M.GuestMemoryBackend.meant memory.now) self.old.addr.0 self.old.count p)) }
     {
         if self.count == 0 {
             return Ok(None);

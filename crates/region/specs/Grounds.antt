@@ -1,5 +1,5 @@
 -- What a backend means: a host length and its regions. Cited by the crates above. Assumes nothing.
-use Rattle.std.specs.Prelude.{◌≡◌, ℕ, ◌+◌, ◌^◌, ◌<◌, ◌≤◌, true, cond, List, [], ◌∷◌, map, length, Some, None, Option, slice_index_or}
+use Rattle.std.specs.Prelude.{◌≡◌, ℕ, ◌+◌, ◌^◌, ◌<◌, ◌≤◌, true, List, map, length, find, None, Option, slice_index_or}
 use Rattle.region.specs.Ranges.{Range, covers}
 use Rattle.region.specs.Regions.{Region, range_of, sound}
 
@@ -37,5 +37,4 @@ KeepsMeaning g =
 
 -- the region that holds an address, or none
 abbrev pub holding : List Region → ℕ → Option Region
-holding [] a = None
-holding (r ∷ rs) a = cond (covers (range_of r) a) (Some r) (holding rs a)
+holding rs a = find (λ r. covers (range_of r) a) rs

@@ -1,8 +1,7 @@
 // What a region is asked, and what follows from its answers.
-ghost use Rattle.std.specs.Prelude.{◌≡◌, ℕ, Option};
+ghost use Rattle.std.specs.Prelude.{◌≡◌, ℕ, Option, option_map};
 ghost use Rattle.region.specs.Ranges.{Range, last_address, within, offset_within, offset_plus, offset_of};
 ghost use Rattle.region.specs.Regions.{shown, sound};
-ghost use Rattle.address.specs.Addresses.{each};
 
 use address::address::{Address, GuestAddress, MemoryRegionAddress};
 
@@ -33,25 +32,21 @@ pub trait AddressRange {
 
     /// The offset itself where it lies within the range.
     fn check_address(&self, addr: MemoryRegionAddress) -> Option<MemoryRegionAddress>
-        ensures { each (λ a. a.0) result ≡ offset_within (range self.now) addr.0 }
+        ensures { option_map (λ a. a.0) result ≡ offset_within (range self.now) addr.0 }
     {
-        if self.address_in_range(addr) {
-            Some(addr)
-        } else {
-            None
-        }
+        self.address_in_range(addr).then_some(addr)
     }
 
     /// The offset plus `offset`, where that lies within the range.
     fn checked_offset(&self, base: MemoryRegionAddress, offset: u64) -> Option<MemoryRegionAddress>
-        ensures { each (λ a. a.0) result ≡ offset_plus (range self.now) base.0 offset }
+        ensures { option_map (λ a. a.0) result ≡ offset_plus (range self.now) base.0 offset }
     {
         self.check_address(base.checked_add(offset)?)
     }
 
     /// How far an address lies above the start, where the range holds it.
     fn to_region_addr(&self, addr: GuestAddress) -> Option<MemoryRegionAddress>
-        ensures { each (λ a. a.0) result ≡ offset_of (range self.now) addr.0 }
+        ensures { option_map (λ a. a.0) result ≡ offset_of (range self.now) addr.0 }
     {
         let offset = addr.checked_offset_from(self.start_addr())?;
         self.check_address(MemoryRegionAddress(offset))
@@ -71,11 +66,9 @@ pub fn is_sound<R: GuestMemoryRegion>(region: &R, host_len: u64) -> bool
     ensures { result ≡ sound host_len (shown R.AddressRange.range R.GuestMemoryRegion.place region.now) }
 {
     let len = region.len();
-    if len == 0 || region.start_addr().0 > u64::MAX - (len - 1) {
-        return false;
-    }
-    match region.host_place() {
-        Some(place) => place <= host_len && len <= host_len - place,
-        None => true,
-    }
+    len != 0
+        && region.start_addr().0 <= u64::MAX - (len - 1)
+        && region
+            .host_place()
+            .is_none_or(|place| place <= host_len && len <= host_len - place)
 }

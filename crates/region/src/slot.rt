@@ -41,21 +41,27 @@ pub enum SlotRegion {
     Window { start: GuestAddress, len: u64 },
 }
 
+impl SlotRegion {
+    /// The start, the length and the host place.
+    fn parts(&self) -> (GuestAddress, u64, Option<u64>)
+        ensures { (result.0.0 ≡ (slot_range self.now).start) × (result.1 ≡ (slot_range self.now).len) × (result.2 ≡ slot_place self.now) }
+    {
+        match self {
+            SlotRegion::Ram(ram) => (ram.start, ram.len, Some(ram.place)),
+            SlotRegion::Window { start, len } => (*start, *len, None),
+        }
+    }
+}
+
 impl AddressRange for SlotRegion {
     ghost range = { slot_range };
 
     fn start_addr(&self) -> GuestAddress {
-        match self {
-            SlotRegion::Ram(ram) => ram.start,
-            SlotRegion::Window { start, .. } => *start,
-        }
+        self.parts().0
     }
 
     fn len(&self) -> u64 {
-        match self {
-            SlotRegion::Ram(ram) => ram.len,
-            SlotRegion::Window { len, .. } => *len,
-        }
+        self.parts().1
     }
 }
 
@@ -63,10 +69,7 @@ impl GuestMemoryRegion for SlotRegion {
     ghost place = { slot_place };
 
     fn host_place(&self) -> Option<u64> {
-        match self {
-            SlotRegion::Ram(ram) => Some(ram.place),
-            SlotRegion::Window { .. } => None,
-        }
+        self.parts().2
     }
 }
 

@@ -8,6 +8,14 @@ use Rattle.region.specs.declared.slot.SlotRegion.{SlotRegion}
 use Rattle.table.specs.Questions.{table_fault}
 use Rattle.table.specs.Edits.{insert_fault, remove_fault, place_in, exact_index}
 use Rattle.table.specs.declared.error.GuestRegionCollectionError.{GuestRegionCollectionError}
+use Rattle.regions.specs.declared.error.EditError.{EditError}
+use Rattle.regions.specs.declared.error.EditError.TheVariants.{Refused, Alloc}
+
+-- what holds of what an edit comes to, its value or its refusal; nothing where memory is wanting
+abbrev pub ComesTo : {X : Type 0} → Result X EditError → (Result X GuestRegionCollectionError → Type 0) → Type 0
+ComesTo (Ok x) P = P (Ok x)
+ComesTo (Err (Refused e)) P = P (Err e)
+ComesTo (Err (Alloc e)) P = Unit {0}
 
 -- the regions with one more in its place in the order, which again pass the questions of a table
 abbrev pub Insertion : ℕ → ℕ → List SlotRegion → SlotRegion → Result (Vec SlotRegion Global) GuestRegionCollectionError → Type 0

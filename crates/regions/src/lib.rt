@@ -5,14 +5,16 @@ ghost use Rattle.std.specs.Prelude.{◌≡◌, min, map, length, IfOk, None, vec
 ghost use Rattle.region.specs.Regions.{shown};
 ghost use Rattle.region.specs.Slots.{slot_range, slot_place};
 ghost use Rattle.table.specs.Questions.{table_fault};
-ghost use Rattle.regions.specs.Changes.{Insertion, Removal};
+ghost use Rattle.regions.specs.Changes.{ComesTo, Insertion, Removal};
 
+pub mod error;
+
+use crate::error::EditError;
 use address::address::GuestAddress;
 use collection::collection::GuestRegionCollection;
 use region::region::AddressRange;
 use region::slot::SlotRegion;
 use std::alloc::{AllocError, Global};
-use table::error::GuestRegionCollectionError;
 
 /// A table for the new regions: of the room that is offered it has what can be of use.
 fn table_of(heap: Global, room: u64, most: usize) -> Result<Vec<SlotRegion>, AllocError>
@@ -25,6 +27,9 @@ fn table_of(heap: Global, room: u64, most: usize) -> Result<Vec<SlotRegion>, All
     Vec::from_elem(heap, blank, room.min(most as u64) as usize)
 }
 
+// The two edits are alike but for one call. One function over a closure would need a contract of what
+// the closure writes, longer than these lines.
+
 /// The regions with one more, the table for them having `room` entries.
 pub fn with_region(
     heap: Global,
@@ -32,21 +37,14 @@ pub fn with_region(
     host_len: u64,
     room: u64,
     region: SlotRegion,
-) -> Result<Result<Vec<SlotRegion>, GuestRegionCollectionError>, AllocError>
-    ensures { IfOk result (λ x. (table_fault host_len (map (shown slot_range slot_place) table.now) ≡ None → Insertion host_len room table.now region x)) }
+) -> Result<Vec<SlotRegion>, EditError>
+    ensures { ComesTo result (λ x. (table_fault host_len (map (shown slot_range slot_place) table.now) ≡ None → Insertion host_len room table.now region x)) }
 {
-    let collection = match GuestRegionCollection::from_edited(table, table.len(), host_len) {
-        Ok(collection) => collection,
-        Err(error) => return Ok(Err(error)),
-    };
+    let collection = GuestRegionCollection::from_edited(table, table.len(), host_len)?;
     let mut dest = table_of(heap, room, table.len().saturating_add(1))?;
-    match collection.insert_region(region, dest.as_mut_slice()) {
-        Ok(count) => {
-            dest.truncate(count);
-            Ok(Ok(dest))
-        }
-        Err(error) => Ok(Err(error)),
-    }
+    let count = collection.insert_region(region, dest.as_mut_slice())?;
+    dest.truncate(count);
+    Ok(dest)
 }
 
 /// The regions without the one of exactly this start and length, and that one.
@@ -57,19 +55,12 @@ pub fn without_region(
     room: u64,
     start: u64,
     len: u64,
-) -> Result<Result<(Vec<SlotRegion>, SlotRegion), GuestRegionCollectionError>, AllocError>
-    ensures { IfOk result (λ x. (table_fault host_len (map (shown slot_range slot_place) table.now) ≡ None → Removal host_len room table.now start len x)) }
+) -> Result<(Vec<SlotRegion>, SlotRegion), EditError>
+    ensures { ComesTo result (λ x. (table_fault host_len (map (shown slot_range slot_place) table.now) ≡ None → Removal host_len room table.now start len x)) }
 {
-    let collection = match GuestRegionCollection::from_edited(table, table.len(), host_len) {
-        Ok(collection) => collection,
-        Err(error) => return Ok(Err(error)),
-    };
+    let collection = GuestRegionCollection::from_edited(table, table.len(), host_len)?;
     let mut dest = table_of(heap, room, table.len())?;
-    match collection.remove_region(GuestAddress(start), len, dest.as_mut_slice()) {
-        Ok((count, removed)) => {
-            dest.truncate(count);
-            Ok(Ok((dest, removed)))
-        }
-        Err(error) => Ok(Err(error)),
-    }
+    let (count, removed) = collection.remove_region(GuestAddress(start), len, dest.as_mut_slice())?;
+    dest.truncate(count);
+    Ok((dest, removed))
 }

@@ -1,5 +1,6 @@
 // What a memory can be asked.
 
+// a closure over the memory in its place would have to be generic over backends, which no closure is
 #[derive(Clone, Copy)]
 pub enum Question {
     /// How many regions?
@@ -9,5 +10,9 @@ pub enum Question {
     /// What is the highest address?
     Last,
     /// Which pieces do so many bytes from an address draw, for an access by its raw value?
-    Slices(u64, u64, u64),
+    Slices {
+        address: u64,
+        count: u64,
+        access: u64,
+    },
 }

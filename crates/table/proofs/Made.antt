@@ -3,10 +3,12 @@ use Rattle.std.proofs.Common.{◌≡◌, ℕ, zero, suc, ◌^◌, ◌<◌, true,
 use Rattle.std.proofs.lemmas.List.{length-map}
 use Rattle.std.proofs.lemmas.Bool.{and_parts}
 use Rattle.std.proofs.lemmas.Bool.Decides.{nat_tests}
+use Rattle.std.specs.Option.{option_or}
+use Rattle.std.proofs.lemmas.Option.{none-some}
 use Rattle.region.specs.Ranges.{Range}
 use Rattle.region.specs.Regions.{Region, range_of, shown, sound}
 use Rattle.region.specs.Grounds.{KeepsMeaning, Ascending, range_at, region_at}
-use Rattle.table.specs.Questions.{first_no, first_unsound, neighbours, bad_region, table_fault}
+use Rattle.table.specs.Questions.{first_unsound, neighbours, bad_region, table_fault}
 use Rattle.table.specs.declared.error.GuestRegionCollectionError.{GuestRegionCollectionError}
 use Rattle.table.proofs.Tables.{all_sound, ascends, first_no_none}
 
@@ -20,12 +22,12 @@ at_range [] k = refl
 at_range (r ∷ rs) zero = refl
 at_range (r ∷ rs) (suc k) = at_range rs k
 
-pub fault_none : (host : ℕ) (rs : List Region) (o : Option GuestRegionCollectionError) → first_unsound host rs ≡ None → o ≡ neighbours (map range_of rs) → o ≡ table_fault host rs
-fault_none host rs o u n = n ∙ ap (λ (p : Option ℕ). first_no (bad_region p) (neighbours (map range_of rs))) (sym u)
+pub fault_none : (host : ℕ) (rs : List Region) (o : Option GuestRegionCollectionError) → None ≡ first_unsound host rs → o ≡ neighbours (map range_of rs) → o ≡ table_fault host rs
+fault_none host rs o u n = n ∙ ap (λ (p : Option ℕ). option_or (bad_region p) (neighbours (map range_of rs))) u
 
 none_bad : (o : Option ℕ) → bad_region o ≡ None → o ≡ None
 none_bad None e = refl
-none_bad (Some i) e = let z : ◌≡◌ {A = ℕ} 0 1 = cc in absurd (omega arith)
+none_bad (Some i) e = absurd (none-some _ (sym e))
 
 pub lawful_made : (host : ℕ) (rs : List Region) → host < 2 ^ 64 → table_fault host rs ≡ None → KeepsMeaning (record { host = host; regions = rs })
 lawful_made host rs b e =

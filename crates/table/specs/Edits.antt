@@ -1,10 +1,9 @@
 -- What inserting and removing a region asks, and the table it makes. Assumes nothing.
-use Rattle.std.specs.Prelude.{◌≡◌, ℕ, suc, ◌+◌, ◌-◌, ◌<◌, Bool, true, false, cond, not, ◌&&◌, List, [], ◌∷◌, ◌++◌, map, length, take, drop, Some, None, Ok, Err, Option, Result, ◌==◌, nat_lt, slice_index_or}
-use Rattle.std.specs.List.{insert, remove}
+use Rattle.std.specs.Prelude.{◌≡◌, ℕ, ◌+◌, ◌-◌, ◌<◌, Bool, true, false, cond, not, ◌&&◌, List, ◌++◌, map, length, take, drop, Some, None, Ok, Err, Option, Result, ◌==◌, nat_lt, slice_index_or, position}
+use Rattle.std.specs.List.{insert, remove, list_all, position_or_len}
 use Rattle.region.specs.Ranges.{Range}
 use Rattle.region.specs.Regions.{Region, range_of, shown, sound}
 use Rattle.region.specs.Grounds.{Apart, KeepsMeaning, range_at}
-use Rattle.table.specs.Questions.{first_index}
 use Rattle.table.specs.declared.error.GuestRegionCollectionError.{GuestRegionCollectionError}
 use Rattle.table.specs.declared.error.GuestRegionCollectionError.TheVariants.{NoMemoryRegion, MemoryRegionOverlap, BadRegion, NoRoom}
 
@@ -14,8 +13,7 @@ clashes r s = nat_lt s.start (r.start + r.len) && nat_lt r.start (s.start + s.le
 
 -- a range is clear of the others
 abbrev pub clear : List Range → Range → Bool
-clear [] s = true
-clear (r ∷ rs) s = not (clashes r s) && clear rs s
+clear rs s = list_all (λ r. not (clashes r s)) rs
 
 -- inserting: has the destination an entry more? is the region sound? is it clear of the others?
 abbrev pub insert_fault : ℕ → ℕ → List Region → Region → Option GuestRegionCollectionError
@@ -25,8 +23,7 @@ insert_fault host room rs new =
 
 -- a range's place in the order: in front of the first that starts above it
 abbrev pub place_in : List Range → Range → ℕ
-place_in [] s = 0
-place_in (r ∷ rs) s = cond (nat_lt s.start r.start) 0 (suc (place_in rs s))
+place_in rs s = position_or_len (λ r. nat_lt s.start r.start) rs
 
 -- the answer to where a range fits: none where it is not clear of the others, else its place in the
 -- order, those before it ending before it starts and it ending before the next one starts
@@ -43,7 +40,7 @@ exactly start len r = r.start == start && r.len == len
 
 -- the index of the range with exactly this start and length, or none
 abbrev pub exact_index : List Range → ℕ → ℕ → Option ℕ
-exact_index rs start len = first_index (exactly start len) rs
+exact_index rs start len = position (exactly start len) rs
 
 -- removing: is there such a region? has the destination an entry for each other?
 abbrev pub room_fault : ℕ → ℕ → Option ℕ → Option GuestRegionCollectionError

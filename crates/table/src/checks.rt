@@ -1,15 +1,19 @@
-// The questions that a table of regions is put.
+// The questions that a table of regions is put. A collection has the table and the host length in one; it
+// is made of what passed here.
 ghost use Rattle.std.specs.Prelude.{◌≡◌, map};
+ghost use Rattle.std.specs.Result.{result_err};
 ghost use Rattle.region.specs.Regions.{shown};
 ghost use Rattle.table.specs.Questions.{pair_fault, neighbours, first_unsound, table_fault};
 
 use crate::error::GuestRegionCollectionError;
+use address::address::Address;
 use region::region::{AddressRange, GuestMemoryRegion, is_sound};
 
 /// The index of the first region that is not sound for a host buffer of `host_len` bytes.
 pub fn first_unsound_index<R: GuestMemoryRegion>(table: &[R], host_len: u64) -> Option<usize>
     ensures { result ≡ first_unsound host_len (map (shown R.AddressRange.range R.GuestMemoryRegion.place) table.now) }
 {
+    // a rule of the project: a check visits each region in table order, by a `for` with the index
     for (i, region) in table.iter().enumerate() {
         if !is_sound(region, host_len) {
             return Some(i);
@@ -18,43 +22,39 @@ pub fn first_unsound_index<R: GuestMemoryRegion>(table: &[R], host_len: u64) -> 
     None
 }
 
-/// What a pair of neighbours is refused for.
-fn pair_error<R: AddressRange>(left: &R, right: &R) -> Option<GuestRegionCollectionError>
-    ensures { result ≡ pair_fault (R.AddressRange.range left.now) (R.AddressRange.range right.now) }
+/// Refuses a pair of neighbours that is not in order, or that shares an address.
+fn check_pair<R: AddressRange>(left: &R, right: &R) -> Result<(), GuestRegionCollectionError>
+    ensures { result_err result ≡ pair_fault (R.AddressRange.range left.now) (R.AddressRange.range right.now) }
 {
-    let start = left.start_addr().0;
-    let next = right.start_addr().0;
-    if start > next {
-        return Some(GuestRegionCollectionError::UnsortedMemoryRegions);
+    let gap = right
+        .start_addr()
+        .checked_offset_from(left.start_addr())
+        .ok_or(GuestRegionCollectionError::UnsortedMemoryRegions)?;
+    if gap < left.len() {
+        return Err(GuestRegionCollectionError::MemoryRegionOverlap);
     }
-    if next - start < left.len() {
-        return Some(GuestRegionCollectionError::MemoryRegionOverlap);
-    }
-    None
+    Ok(())
 }
 
-/// What the first refused pair of neighbours, from the left, is refused for.
-pub fn first_bad_pair<R: AddressRange>(table: &[R]) -> Option<GuestRegionCollectionError>
-    ensures { result ≡ neighbours (map R.AddressRange.range table.now) }
+/// Refuses a table for its first bad pair of neighbours, from the left.
+pub fn check_neighbours<R: AddressRange>(table: &[R]) -> Result<(), GuestRegionCollectionError>
+    ensures { result_err result ≡ neighbours (map R.AddressRange.range table.now) }
 {
-    for i in 1..table.len() {
-        if let Some(error) = pair_error(&table[i - 1], &table[i]) {
-            return Some(error);
-        }
+    for (left, right) in table.iter().zip(table.iter().skip(1)) {
+        check_pair(left, right)?;
     }
-    None
+    Ok(())
 }
 
-/// What the regions of a table are refused for, if anything: the first that is not sound, then the
-/// first bad pair.
-pub fn table_error<R: GuestMemoryRegion>(
+/// Refuses a table for its first region that is not sound, or else for its first bad pair.
+pub fn check_table<R: GuestMemoryRegion>(
     table: &[R],
     host_len: u64,
-) -> Option<GuestRegionCollectionError>
-    ensures { result ≡ table_fault host_len (map (shown R.AddressRange.range R.GuestMemoryRegion.place) table.now) }
+) -> Result<(), GuestRegionCollectionError>
+    ensures { result_err result ≡ table_fault host_len (map (shown R.AddressRange.range R.GuestMemoryRegion.place) table.now) }
 {
     match first_unsound_index(table, host_len) {
-        Some(i) => Some(GuestRegionCollectionError::BadRegion(i)),
-        None => first_bad_pair(table),
+        Some(i) => Err(GuestRegionCollectionError::BadRegion(i)),
+        None => check_neighbours(table),
     }
 }

@@ -25,15 +25,12 @@ fn free_place<R: AddressRange>(table: &[R], new: &R) -> Option<usize>
     ensures within { IfSome result (λ i. i ≤ length table.now) }
     ensures exact { Ascending (map R.AddressRange.range table.now) (length table.now) → 0 < (R.AddressRange.range new.now).len → Fitted (map R.AddressRange.range table.now) (R.AddressRange.range new.now) result }
 {
-    for (i, range) in table.iter().enumerate() {
-        if !ends_before(range, new) {
-            if ends_before(new, range) {
-                return Some(i);
-            }
-            return None;
-        }
-    }
-    Some(table.len())
+    let i = table
+        .iter()
+        .take_while(|&range| ends_before(range, new))
+        .count();
+    let clear = table.get(i).is_none_or(|range| ends_before(new, range));
+    clear.then_some(i)
 }
 
 /// Writes the table with `new` at index `i` into `dest`.
@@ -42,10 +39,9 @@ fn insert_into<R: Copy>(table: &[R], i: usize, new: R, dest: &mut [R])
     requires room { length table.now < length dest.old }
     ensures { dest.new ≡ insert table.now i new ++ drop (length table.now + 1) dest.old }
 {
-    let count = table.len();
-    dest[0..i].copy_from_slice(&table[0..i]);
+    dest[..i].copy_from_slice(&table[..i]);
     dest[i] = new;
-    dest[i + 1..count + 1].copy_from_slice(&table[i..count]);
+    dest[i + 1..table.len() + 1].copy_from_slice(&table[i..]);
 }
 
 /// Writes the table without its entry at index `i` into `dest`.
@@ -54,9 +50,8 @@ fn remove_into<R: Copy>(table: &[R], i: usize, dest: &mut [R])
     requires room { length table.now ≤ length dest.old + 1 }
     ensures { dest.new ≡ remove table.now i ++ drop (length table.now - 1) dest.old }
 {
-    let count = table.len();
-    dest[0..i].copy_from_slice(&table[0..i]);
-    dest[i..count - 1].copy_from_slice(&table[i + 1..count]);
+    dest[..i].copy_from_slice(&table[..i]);
+    dest[i..table.len() - 1].copy_from_slice(&table[i + 1..]);
 }
 
 /// Writes the regions of a table with one more into `dest`, and answers their number.
@@ -75,14 +70,12 @@ pub fn insert<R: GuestMemoryRegion + Copy>(
     if !is_sound(&region, host_len) {
         return Err(GuestRegionCollectionError::BadRegion(0));
     }
-    match free_place(table, &region) {
-        Some(i) => {
-            insert_into(table, i, region, dest);
-            Ok(table.len() + 1)
-        }
-        None => Err(GuestRegionCollectionError::MemoryRegionOverlap),
-    }
+    let i = free_place(table, &region).ok_or(GuestRegionCollectionError::MemoryRegionOverlap)?;
+    insert_into(table, i, region, dest);
+    Ok(table.len() + 1)
 }
+
+// a start and a length side by side, as in the Rust's `remove_region`
 
 /// Whether a range has exactly this start and length.
 fn is_exactly<R: AddressRange>(range: &R, start: GuestAddress, len: u64) -> bool
@@ -96,16 +89,8 @@ fn index_of<R: GuestMemoryRegion>(table: &[R], start: GuestAddress, len: u64) ->
     ensures within { IfSome result (λ i. i < length table.now) }
     ensures exact { (host : ℕ) → KeepsMeaning (record { host = host; regions = map (shown R.AddressRange.range R.GuestMemoryRegion.place) table.now }) → result ≡ exact_index (map R.AddressRange.range table.now) start.0 len }
 {
-    match find_index(table, start) {
-        Some(i) => {
-            if is_exactly(&table[i], start, len) {
-                Some(i)
-            } else {
-                None
-            }
-        }
-        None => None,
-    }
+    let i = find_index(table, start)?;
+    is_exactly(&table[i], start, len).then_some(i)
 }
 
 /// Writes the regions of a table without the one of exactly this start and length into `dest`, and
@@ -119,9 +104,7 @@ pub fn remove<R: GuestMemoryRegion + Copy>(
     ensures within { MatchResult result (λ p. p.0 ≤ length dest.new) (λ _. dest.new ≡ dest.old) }
     ensures exact { (host : ℕ) → KeepsMeaning (record { host = host; regions = map (shown R.AddressRange.range R.GuestMemoryRegion.place) table.now }) → Removes R.AddressRange.range R.GuestMemoryRegion.place host table.now start.0 len dest.old dest.new result }
 {
-    let Some(i) = index_of(table, start, len) else {
-        return Err(GuestRegionCollectionError::NoMemoryRegion);
-    };
+    let i = index_of(table, start, len).ok_or(GuestRegionCollectionError::NoMemoryRegion)?;
     if dest.len() < table.len() - 1 {
         return Err(GuestRegionCollectionError::NoRoom);
     }

@@ -4,11 +4,10 @@
 #[cfg(test)]
 mod tests {
     use answers::{Answer, Span};
-    use commands::{Command, Reading, read_line};
+    use commands::{Command, LineError, read_line};
     use numerals::parse_number;
     use refusal::Refusal;
-    use std::alloc::{AllocError, Global};
-    use std::process::Abort;
+    use std::alloc::Global;
     use std::test::Fail;
 
     #[test]
@@ -39,12 +38,13 @@ mod tests {
     }
 
     // What a line is read as, in a word.
-    fn kind(heap: Global, line: &[u8]) -> Result<&'static str, AllocError> {
-        Ok(match read_line(heap, line)? {
-            Reading::Nothing => "nothing",
-            Reading::Malformed => "malformed",
-            Reading::Asks(_) => "command",
-        })
+    fn kind(heap: Global, line: &[u8]) -> Result<&'static str, LineError> {
+        match read_line(heap, line) {
+            Ok(None) => Ok("nothing"),
+            Ok(Some(_)) => Ok("command"),
+            Err(LineError::Malformed) => Ok("malformed"),
+            Err(error) => Err(error),
+        }
     }
 
     #[test]
@@ -107,14 +107,15 @@ mod tests {
 
     #[test]
     fn fields(rt: HostRuntime) -> Result<(), Fail> {
-        let Reading::Asks(
+        let command = read_line(rt.alloc(), b"insert 1 ram 0x02 3 0xA")?;
+        let Some(
             Command::InsertRam {
                 room,
                 start,
                 len,
                 place,
             },
-        ) = read_line(rt.alloc(), b"insert 1 ram 0x02 3 0xA")?
+        ) = command
         else {
             return Err(Fail::new("no insert"));
         };
@@ -124,95 +125,55 @@ mod tests {
 
     #[test]
     fn entries(rt: HostRuntime) -> Result<(), Fail> {
-        let Reading::Asks(Command::Frames { base, entries }) = read_line(
-            rt.alloc(),
-            b"frames 0x1000 1 0x2 3",
-        )?
-        else {
+        let command = read_line(rt.alloc(), b"frames 0x1000 1 0x2 3")?;
+        let Some(Command::Frames { base, entries }) = command else {
             return Err(Fail::new("no frames"));
         };
         assert_eq!(rt; base, 4096);
-        assert!(rt; entries.as_slice() == [1, 2, 3].as_slice());
-        Ok(())
-    }
-
-    fn shows(rt: &impl Abort, heap: Global, answer: Answer, line: &str) -> Result<(), Fail> {
-        let text = format!(in heap; "{answer}")?;
-        assert_eq!(rt; text.as_str(), line);
+        assert_eq!(rt; entries.as_slice(), [1, 2, 3].as_slice());
         Ok(())
     }
 
     #[test]
     fn plain_answers(rt: HostRuntime) -> Result<(), Fail> {
-        let heap = rt.alloc();
         let region = Span {
             start: 4096,
             len: 2048,
         };
-        shows(&rt, heap, Answer::Done, "ok")?;
-        shows(&rt, heap, Answer::Number(0), "ok 0x0")?;
-        shows(&rt, heap, Answer::Number(u64::MAX), "ok 0xffffffffffffffff")?;
-        shows(&rt, heap, Answer::Absent, "none")?;
-        shows(
-            &rt,
-            heap,
-            Answer::Region(region, Some(10)),
-            "ok 0x1000+0x800 0xa",
-        )?;
-        shows(
-            &rt,
-            heap,
-            Answer::Region(region, None),
-            "ok 0x1000+0x800 none",
-        )?;
-        shows(
-            &rt,
-            heap,
-            Answer::Removed(2, region, None),
-            "ok 0x2 0x1000+0x800 none",
-        )?;
-        shows(
-            &rt,
-            heap,
-            Answer::Checked(Some(21), 21, false),
-            "ok 0x15 0x15 false",
-        )?;
-        shows(
-            &rt,
-            heap,
-            Answer::Checked(None, 1, true),
-            "ok none 0x1 true",
-        )?;
-        shows(&rt, heap, Answer::Error, "error")
+        for (answer, line) in [
+            (Answer::Done, "ok"),
+            (Answer::Number(0), "ok 0x0"),
+            (Answer::Number(u64::MAX), "ok 0xffffffffffffffff"),
+            (Answer::Absent, "none"),
+            (Answer::Region(region, Some(10)), "ok 0x1000+0x800 0xa"),
+            (Answer::Region(region, None), "ok 0x1000+0x800 none"),
+            (Answer::Removed(2, region, None), "ok 0x2 0x1000+0x800 none"),
+            (Answer::Checked(Some(21), 21, false), "ok 0x15 0x15 false"),
+            (Answer::Checked(None, 1, true), "ok none 0x1 true"),
+            (Answer::Error, "error"),
+        ] {
+            let text = format!(in rt.alloc(); "{answer}")?;
+            assert_eq!(rt; text.as_str(), line);
+        }
+        Ok(())
     }
 
     #[test]
     fn refusals(rt: HostRuntime) -> Result<(), Fail> {
-        let heap = rt.alloc();
-        shows(
-            &rt,
-            heap,
-            Answer::Refused(Refusal::NoMemoryRegion),
-            "refused 1 NoMemoryRegion",
-        )?;
-        shows(
-            &rt,
-            heap,
-            Answer::Refused(Refusal::BadRegion(17)),
-            "refused 4 BadRegion 0x11",
-        )?;
-        shows(
-            &rt,
-            heap,
-            Answer::Refused(Refusal::InvalidGuestAddress(32)),
-            "refused 8 InvalidGuestAddress 0x20",
-        )?;
-        shows(
-            &rt,
-            heap,
-            Answer::Refused(Refusal::BadPermissions),
-            "refused 14 BadPermissions",
-        )
+        for (refusal, line) in [
+            (Refusal::NoMemoryRegion, "refused 1 NoMemoryRegion"),
+            (Refusal::BadRegion(17), "refused 4 BadRegion 0x11"),
+            (
+                Refusal::InvalidGuestAddress(32),
+                "refused 8 InvalidGuestAddress 0x20",
+            ),
+            (Refusal::BadPermissions, "refused 14 BadPermissions"),
+        ] {
+            let answer = Answer::Refused(refusal);
+            let text = format!(in rt.alloc(); "{answer}")?;
+            assert_eq!(rt; text.as_str(), line);
+        }
+        Ok(())
     }
 
     #[test]
@@ -220,25 +181,22 @@ mod tests {
         let heap = rt.alloc();
         let piece = Span { start: 0, len: 16 };
         let reason = Refusal::InvalidGuestAddress(32);
-        shows(&rt, heap, Answer::Pieces(vec![in heap]?, None), "ok")?;
-        shows(
-            &rt,
-            heap,
-            Answer::Pieces(vec![in heap; piece, piece]?, None),
-            "ok 0x0+0x10 0x0+0x10",
-        )?;
-        shows(
-            &rt,
-            heap,
-            Answer::Pieces(vec![in heap; piece]?, Some(reason)),
-            "ok 0x0+0x10 refused 8 InvalidGuestAddress 0x20",
-        )?;
-        shows(&rt, heap, Answer::Bytes(vec![in heap]?), "ok -")?;
-        shows(
-            &rt,
-            heap,
-            Answer::Bytes(vec![in heap; 0, 171, 255]?),
-            "ok 00abff",
-        )
+        for (answer, line) in [
+            (Answer::Pieces(vec![in heap]?, None), "ok"),
+            (
+                Answer::Pieces(vec![in heap; piece, piece]?, None),
+                "ok 0x0+0x10 0x0+0x10",
+            ),
+            (
+                Answer::Pieces(vec![in heap; piece]?, Some(reason)),
+                "ok 0x0+0x10 refused 8 InvalidGuestAddress 0x20",
+            ),
+            (Answer::Bytes(vec![in heap]?), "ok -"),
+            (Answer::Bytes(vec![in heap; 0, 171, 255]?), "ok 00abff"),
+        ] {
+            let text = format!(in heap; "{answer}")?;
+            assert_eq!(rt; text.as_str(), line);
+        }
+        Ok(())
     }
 }

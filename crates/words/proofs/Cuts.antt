@@ -1,28 +1,29 @@
--- The words of a text that has no blank, and of one that is cut at its first blank.
-use Rattle.std.proofs.Common.{◌≡◌, ℕ, suc, ◌<◌, Bool, true, false, cond, eqb, List, [], ◌∷◌, ◌++◌, length, IfSome, Some, None, Option, sym, refl, ap, ◌∙◌, subst, ⊎_elim, arith, lit<, length-append, Bor, ne_eqb, MatchOption}
-use Rattle.std.specs.Str.Iter.{LacksByte}
-use Rattle.std.specs.List.{join_with_byte}
+-- The words of a text are the parts that `split` gives, and those of one cut at its first blank.
+use Rattle.std.proofs.Common.{◌≡◌, ℕ, ◌<◌, Bool, true, false, cond, ◌==◌, List, [], ◌∷◌, length, IfSome, Some, None, Option, sym, refl, ap, ◌∙◌, subst, ⊎_elim, arith, lit<, length-append, Bor, ne_eqb, MatchOption}
+use Rattle.std.specs.List.{join_with_byte, slice_split, before_first, after_first, onto_first, AllByRecursion}
 use Rattle.std.proofs.lemmas.Bool.{cases_eq}
-use Rattle.std.proofs.lemmas.Str.Pattern.{IsSplitOnceResult, split_parts}
-use Rattle.words.specs.Words.{words, onto, Spaced}
+use Rattle.std.proofs.lemmas.List.Elements.{All-from_get_or}
+use Rattle.std.proofs.lemmas.List.Recursion.{same_from_clauses}
+use Rattle.std.proofs.lemmas.List.Splits.{slice_split_none, slice_split_first, join_with_byte-slice_split}
+use Rattle.std.proofs.lemmas.Str.Pattern.{IsSplitOnceResult, split_parts, split_once_first}
+use Rattle.words.specs.Words.{words, onto, Unbroken, Spaced}
 
-unblank : (c : ℕ) (cs : List ℕ) → (c ≡ 32 → ⊥) → words (c ∷ cs) ≡ onto c (words cs)
-unblank c cs h = ap (λ (b : Bool). cond b ([] ∷ words cs) (onto c (words cs))) (ne_eqb c 32 h)
+abbrev is_blank : ℕ → Bool
+is_blank b = b == 32
 
-past : (c : ℕ) (cs : List ℕ) → LacksByte 32 (c ∷ cs) → LacksByte 32 cs
-past c cs h k lt = h (suc k) (omega arith)
+onto_same : (c : ℕ) (ws : List (List ℕ)) → onto c ws ≡ onto_first c ws
+onto_same c [] = refl
+onto_same c (w ∷ ws) = refl
 
-pub words_one : (w : List ℕ) → LacksByte 32 w → words w ≡ w ∷ []
-words_one [] h = refl
-words_one (c ∷ cs) h = unblank c cs (h 0 (omega arith)) ∙ ap (onto c) (words_one cs (past c cs h))
-
-pub words_more : (w rest : List ℕ) → LacksByte 32 w → words (w ++ (32 ∷ rest)) ≡ w ∷ words rest
-words_more [] rest h = refl
-words_more (c ∷ cs) rest h = unblank c (cs ++ (32 ∷ rest)) (h 0 (omega arith)) ∙ ap (onto c) (words_more cs rest (past c cs h))
+pub words_split : (s : List ℕ) → words s ≡ slice_split is_blank s
+words_split = same_from_clauses words (slice_split is_blank) (λ c ws. cond (c == 32) ([] ∷ ws) (onto c ws)) refl (λ _ _. refl)
+    (λ c cs. ap (λ (l : List (List ℕ)). cond (c == 32) ([] ∷ slice_split is_blank cs) l) (sym (onto_same c (slice_split is_blank cs))))
 
 pub words_cut : (bs : List ℕ) (r : Option (Bor (List ℕ) × Bor (List ℕ))) → IsSplitOnceResult 32 bs r → MatchOption r (words bs ≡ bs ∷ []) (λ x. words bs ≡ x.0.now ∷ words x.1.now)
-words_cut bs None h = words_one bs (split_parts 32 bs None h (lit< tt))
-words_cut bs (Some x) h = let p = split_parts 32 bs (Some x) h (lit< tt) in ap words p.0 ∙ words_more x.0.now x.1.now p.1
+words_cut bs None h = words_split bs ∙ slice_split_none is_blank bs (All-from_get_or (λ b. is_blank b ≡ false) bs 0 (λ i l. ne_eqb _ 32 (split_parts 32 bs None h (lit< tt) i l)))
+words_cut bs (Some x) h =
+    let p = split_once_first 32 bs (Some x) h (lit< tt) in
+    words_split bs ∙ slice_split_first is_blank bs 0 p.0 ∙ sym ((λ i. p.1 i ∷ words (p.2 i)) ∙ ap (λ (l : List (List ℕ)). before_first is_blank bs ∷ l) (words_split (after_first is_blank bs)))
 
 pub less_cut : (bs : List ℕ) (r : Option (Bor (List ℕ) × Bor (List ℕ))) → IsSplitOnceResult 32 bs r → IfSome r (λ x. length x.1.now < length bs)
 less_cut bs None h = tt
@@ -38,20 +39,19 @@ onto_some c (w ∷ ws) = (c ∷ w, ws, refl)
 -- every text has a word
 pub words_some : (s : List ℕ) → SomeWord (words s)
 words_some [] = ([], [], refl)
-words_some (c ∷ cs) = elim (eqb c 32) as (λ b. SomeWord (cond b ([] ∷ words cs) (onto c (words cs)))) [ true ↦ ([], words cs, refl) | false ↦ onto_some c (words cs) ]
+words_some (c ∷ cs) = elim (c == 32) as (λ b. SomeWord (cond b ([] ∷ words cs) (onto c (words cs)))) [ true ↦ ([], words cs, refl) | false ↦ onto_some c (words cs) ]
 
-joined_onto : (c : ℕ) (w : List ℕ) (ws : List (List ℕ)) → join_with_byte 32 ((c ∷ w) ∷ ws) ≡ c ∷ join_with_byte 32 (w ∷ ws)
-joined_onto c w [] = refl
-joined_onto c w (v ∷ ws) = refl
+onto_unbroken : (c : ℕ) (ws : List (List ℕ)) → (c ≡ 32 → ⊥) → AllByRecursion Unbroken ws → AllByRecursion Unbroken (onto c ws)
+onto_unbroken c [] n h = ((n, tt), tt)
+onto_unbroken c (w ∷ ws) n h = ((n, h.0), h.1)
 
-spaced_step : (c : ℕ) (cs : List ℕ) (ws : List (List ℕ)) → SomeWord ws → Spaced cs ws → Spaced (c ∷ cs) (cond (eqb c 32) ([] ∷ ws) (onto c ws))
-spaced_step c cs [] some h = absurd (let z : ◌≡◌ {A = ℕ} 0 1 = cc some.2 in omega arith)
-spaced_step c cs (w ∷ ws) some h =
+unbroken : (s : List ℕ) → AllByRecursion Unbroken (words s)
+unbroken [] = (tt, tt)
+unbroken (c ∷ cs) =
     ⊎_elim
-    (λ (e : c ≡ 32). subst (λ (d : ℕ). Spaced (d ∷ cs) (cond (eqb d 32) ([] ∷ w ∷ ws) (onto d (w ∷ ws)))) (sym e) (ap (λ (l : List ℕ). 32 ∷ l) h.0, (tt, h.1)))
-    (λ (n : c ≡ 32 → ⊥). subst (λ (b : Bool). Spaced (c ∷ cs) (cond b ([] ∷ w ∷ ws) (onto c (w ∷ ws)))) (sym (ne_eqb c 32 n)) (joined_onto c w ws ∙ ap (λ (l : List ℕ). c ∷ l) h.0, ((n, h.1.0), h.1.1)))
+    (λ (e : c ≡ 32). subst (λ (d : ℕ). AllByRecursion Unbroken (cond (d == 32) ([] ∷ words cs) (onto d (words cs)))) (sym e) (tt, unbroken cs))
+    (λ (n : c ≡ 32 → ⊥). subst (λ (b : Bool). AllByRecursion Unbroken (cond b ([] ∷ words cs) (onto c (words cs)))) (sym (ne_eqb c 32 n)) (onto_unbroken c (words cs) n (unbroken cs)))
     (cases_eq c 32)
 
 pub words_spaced : (s : List ℕ) → Spaced s (words s)
-words_spaced [] = (refl, (tt, tt))
-words_spaced (c ∷ cs) = spaced_step c cs (words cs) (words_some cs) (words_spaced cs)
+words_spaced s = (ap (join_with_byte 32) (words_split s) ∙ join_with_byte-slice_split 32 s, unbroken s)

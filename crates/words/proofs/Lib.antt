@@ -1,4 +1,4 @@
 -- The laws that the proofs of this crate use.
 mod Blanks
 pub mod Cuts
-mod Fills
+mod Entries

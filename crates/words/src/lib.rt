@@ -1,14 +1,33 @@
 // A line and its words, and numbers in a row.
 #![tactic(auto)]
 
-ghost use Rattle.std.specs.Prelude.{◌≡◌, ℕ, ◌<◌, ◌≤◌, List, [], ◌∷◌, length, IfSome, IfOk, MatchOption};
+ghost use Rattle.std.specs.Prelude.{◌≡◌, ℕ, ◌<◌, ◌≤◌, List, [], ◌∷◌, length, IfSome, MatchOption};
 ghost use Rattle.numerals.specs.Numbers.{IsNumber, number};
 ghost use Rattle.std.specs.Option.{SomeIff};
+ghost use Rattle.words.specs.declared.LineError.TheVariants.{Alloc};
+ghost use Rattle.words.specs.Lines.{IfRead};
 ghost use Rattle.words.specs.Parts.{Fill, listed};
-ghost use Rattle.words.specs.Words.{blank, idle, Spaced, words};
+ghost use Rattle.words.specs.Words.{idle, Spaced, words};
 
 use numerals::parse_number;
 use std::alloc::{AllocError, Global};
+
+/// Why a line was not read.
+#[derive(Clone, Copy, Debug, PartialEq, Eq)]
+pub enum LineError {
+    /// It is no command.
+    Malformed,
+    /// Memory ran out.
+    Alloc(AllocError),
+}
+
+impl From<AllocError> for LineError {
+    ghost from_gives = { λ e r. r ≡ Alloc e };
+
+    fn from(error: AllocError) -> LineError {
+        LineError::Alloc(error)
+    }
+}
 
 /// The first word and what follows the blank after it; none where there is but one word.
 pub fn cut(text: &str) -> Option<(&str, &str)>
@@ -19,22 +38,11 @@ pub fn cut(text: &str) -> Option<(&str, &str)>
     text.split_once(' ')
 }
 
-fn is_blank(text: &[u8]) -> bool
-    ensures { result ≡ blank text.now }
-{
-    for b in text {
-        if *b != b' ' {
-            return false;
-        }
-    }
-    true
-}
-
 /// Whether a line asks for nothing: nothing but blanks, or a comment.
 pub fn is_idle(text: &str) -> bool
     ensures { result ≡ idle text.now }
 {
-    is_blank(text.as_bytes()) || text.starts_with('#')
+    text.bytes().all(|b| b == b' ') || text.starts_with('#')
 }
 
 /// A number of 32 bits.
@@ -44,22 +52,11 @@ fn parse_entry(word: &str) -> Option<u32>
     u32::try_from(parse_number(word)?).ok()
 }
 
-/// The numbers of 32 bits that the words of a text write; none where a word writes none.
-pub fn parse_entries(heap: Global, text: &str) -> Result<Option<Vec<u32>>, AllocError>
-    ensures { IfOk result (λ o. MatchOption o ((es : List ℕ) → Fill (listed es) (words text.now) → ⊥) (λ v. Fill (listed v.items) (words text.now))) }
+/// The numbers of 32 bits that the words of a text write; `Malformed` where a word writes none.
+pub fn parse_entries(heap: Global, text: &str) -> Result<Vec<u32>, LineError>
+    ensures { IfRead result (λ o. MatchOption o ((es : List ℕ) → Fill (listed es) (words text.now) → ⊥) (λ v. Fill (listed v.items) (words text.now))) }
 {
-    let mut entries = Vec::new(heap);
-    let mut rest = text;
-    while let Some((word, more)) = cut(rest) {
-        let Some(entry) = parse_entry(word) else {
-            return Ok(None);
-        };
-        entries.push(entry)?;
-        rest = more;
-    }
-    let Some(entry) = parse_entry(rest) else {
-        return Ok(None);
-    };
-    entries.push(entry)?;
-    Ok(Some(entries))
+    text.split(' ')
+        .map(|word| parse_entry(word).ok_or(LineError::Malformed))
+        .try_collect(heap)
 }

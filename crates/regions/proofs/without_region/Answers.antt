@@ -1,40 +1,17 @@
 -- The collection is made from the whole table, and the new regions are what is left in the second one.
-use Rattle.std.proofs.Common.{◌≡◌, ℕ, min, List, map, length, drop, Ok, Err, vec_len, sym, refl, ◌∙◌}
-use Rattle.std.proofs.lemmas.List.{length-map}
-use Rattle.region.specs.Regions.{shown}
-use Rattle.region.specs.Slots.{slot_range, slot_place}
-use Rattle.region.specs.declared.slot.SlotRegion.{SlotRegion}
-use Rattle.table.specs.Edits.{Removes}
-use Rattle.regions.proofs.Whole.{over_whole, not_refused}
-use Rattle.regions.proofs.Edited.{cut_off, removal_made, removal_refused}
+use Rattle.std.proofs.Common.{◌≡◌, min, length, drop, vec_len, ◌∙◌, arith}
+use Rattle.std.proofs.lemmas.List.{take_all}
+use Rattle.regions.proofs.Edited.{cut_off, removal_made}
 use Rattle.regions.proofs.without_region.Goals as goal
 
-pub returns-in-Err : goal.returns-in-Err
-returns-in-Err c h =
+pub returns : goal.returns
+returns c h =
     let xs = c.args.table.now in
-    let rs = map (shown slot_range slot_place) xs in
-    absurd (not_refused c.args.host_len (length xs) rs c.in-Err.error (sym (length-map xs (shown slot_range slot_place))) h c.in-Err.ensures.answer)
-
-pub returns-in-Ok-remove_region : goal.returns-in-Ok-remove_region
-returns-in-Ok-remove_region c h =
-    let xs = c.args.table.now in
-    let col = c.in-Ok.collection in
-    let made = c.in-Ok.ensures in
-    let before : List SlotRegion = c.as_mut_slice.result.now in
-    let after : List SlotRegion = c.remove_region.new.dest in
-    let n : length before ≡ min c.args.room (length xs) = c.as_mut_slice.ensures.len ∙ c.in_ok-dest.ensures ∙ refl in
-    let q = over_whole (λ (host : ℕ) (ys : List SlotRegion). Removes slot_range slot_place host ys c.args.start c.args.len before after (Ok (c.in-Ok-remove_region.count, c.in-Ok-remove_region.removed))) col c.args.host_len xs made.answer.1 made.answer.2 (c.in-Ok-remove_region.ensures.exact made.lawful) in
+    let made = c.in_ok-collection.ensures in
+    let before = c.as_mut_slice.result.now in
+    let after = c.remove_region.new.dest in
+    let n : length before ≡ min c.args.room (length xs) = c.as_mut_slice.ensures.len ∙ c.in_ok-dest.ensures in
+    let q = rw (made.answer.1, take_all (length xs) xs (omega arith), made.answer.2) at c.in_ok-count.ensures.exact in
     let k : length after ≡ vec_len c.in_ok-dest.dest = c.remove_region.auto.dest ∙ c.as_mut_slice.ensures.len in
-    removal_made c.args.host_len c.args.room xs c.args.start c.args.len before after c.in-Ok-remove_region.count c.in-Ok-remove_region.removed c.truncate.new.self n q
-    (c.truncate.ensures.items ∙ cut_off c.in-Ok-remove_region.count (vec_len c.in_ok-dest.dest) after (drop (length after) c.in_ok-dest.dest.items) k)
-
-pub returns-in-Err-remove_region : goal.returns-in-Err-remove_region
-returns-in-Err-remove_region c h =
-    let xs = c.args.table.now in
-    let col = c.in-Ok.collection in
-    let made = c.in-Ok.ensures in
-    let before : List SlotRegion = c.as_mut_slice.result.now in
-    let after : List SlotRegion = c.remove_region.new.dest in
-    let n : length before ≡ min c.args.room (length xs) = c.as_mut_slice.ensures.len ∙ c.in_ok-dest.ensures ∙ refl in
-    let q = over_whole (λ (host : ℕ) (ys : List SlotRegion). Removes slot_range slot_place host ys c.args.start c.args.len before after (Err c.in-Err-remove_region.error)) col c.args.host_len xs made.answer.1 made.answer.2 (c.in-Err-remove_region.ensures.exact made.lawful) in
-    removal_refused c.args.host_len c.args.room xs c.args.start c.args.len before after c.in-Err-remove_region.error n q
+    removal_made c.args.host_len c.args.room xs c.args.start c.args.len before after c.in_ok-count.count c.in_ok-count.removed c.truncate.new.self n q
+    (c.truncate.ensures.items ∙ cut_off c.in_ok-count.count (vec_len c.in_ok-dest.dest) after (drop (length after) c.in_ok-dest.dest.items) k)

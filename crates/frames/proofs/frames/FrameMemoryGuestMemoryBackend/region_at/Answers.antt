@@ -1,31 +1,31 @@
-use Rattle.std.proofs.Common.{◌≡◌, ℕ, ◌+◌, ◌-◌, ◌*◌, ◌/◌, ◌%◌, Bool, cond, get_or, Some, None, sym, ap, ◌∙◌, arith, rules, eq-eqb, ne_eqb}
+use Rattle.std.proofs.Common.{◌≡◌, ℕ, ◌-◌, ◌*◌, ◌/◌, ◌%◌, ◌≤◌, Bool, cond, length, None, Some, sym, ap, ◌∙◌, arith, rules, ne_eqb}
+use Rattle.std.proofs.lemmas.Bool.Decides.{nat_tests}
 use Rattle.frames.specs.Frames.{frame}
-use Rattle.frames.proofs.Framed.{below_frames, past_frames, in_frames}
+use Rattle.frames.proofs.Framed.{below_frames, past_entries, at_entry, below_base}
 use Rattle.frames.proofs.frames.FrameMemoryGuestMemoryBackend.region_at.Goals as goal
 
-pub returns-then-addr-self : goal.returns-then-addr-self
-returns-then-addr-self c h = sym (below_frames c.args.self.now.base.0 c.args.self.now.entries.now c.args.addr.0 (omega arith))
+pub returns-in_err-offset : goal.returns-in_err-offset
+returns-in_err-offset c =
+    let m = c.args.self.now in
+    rw c.from_residual.ensures (sym (below_frames m.base.0 m.entries.now c.args.addr.0 (below_base c.args.addr.0 m.base.0 c.in_err-offset.ensures)))
 
-pub returns-then-n-entries : goal.returns-then-n-entries
-returns-then-n-entries c h = sym (past_frames c.args.self.now.base.0 c.args.self.now.entries.now c.args.addr.0 (omega arith))
+pub returns-in_err-entry : goal.returns-in_err-entry
+returns-in_err-entry c =
+    let m = c.args.self.now in
+    let l : length m.entries.now ≤ c.in_ok-offset.offset / 4096 = grind (arith, nat_tests, c.in_err-entry.ensures.lookup) in
+    rw c.from_residual-in_err-entry.ensures (sym (past_entries m.base.0 m.entries.now c.args.addr.0 c.in_ok-offset.offset c.in_ok-offset.ensures l))
 
 pub returns-then-entry-eq0 : goal.returns-then-entry-eq0
-returns-then-entry-eq0 c h =
-    let base = c.args.self.now.base.0 in
-    let vs = c.args.self.now.entries.now in
-    let n : ℕ = (c.args.addr.0 - base) / 4096 in
-    sym (in_frames base vs n c.args.addr.0 (omega arith) (omega arith) (omega arith)
-    ∙ ap (λ (b : Bool). cond b None (Some (frame (base + 4096 * n) (get_or vs n 0)))) (eq-eqb (get_or vs n 0) 0 c.if-entry-eq0.true))
+returns-then-entry-eq0 c =
+    let m = c.args.self.now in
+    sym (at_entry m.base.0 m.entries.now c.args.addr.0 c.in_ok-offset.offset 0 c.in_ok-offset.ensures (search rules) (search rules))
 
 pub returns : goal.returns
-returns c h =
-    let base = c.args.self.now.base.0 in
-    let a = c.args.addr.0 in
-    let vs = c.args.self.now.entries.now in
-    let n : ℕ = (a - base) / 4096 in
-    let s : base + 4096 * n ≡ a - (a - base) % 4096 = omega arith in
-    let v : get_or vs n 0 ≡ c.from.result = search rules in
-    sym (in_frames base vs n a (omega arith) (omega arith) (omega arith)
-    ∙ ap (λ (b : Bool). cond b None (Some (frame (base + 4096 * n) (get_or vs n 0)))) (ne_eqb (get_or vs n 0) 0 c.if-entry-eq0.false)
-    ∙ ap (λ (t : ℕ). Some (frame t (get_or vs n 0))) s
-    ∙ ap (λ (w : ℕ). Some (frame (a - (a - base) % 4096) w)) v)
+returns c =
+    let m = c.args.self.now in
+    let v = c.in_ok-entry.field-0.now in
+    let start : ℕ = c.args.addr.0 - c.in_ok-offset.offset % 4096 in
+    let p : 4096 * (v - 1) ≡ c.host_end.result - 4096 = omega arith in
+    sym (at_entry m.base.0 m.entries.now c.args.addr.0 c.in_ok-offset.offset v c.in_ok-offset.ensures (search rules) (search rules)
+    ∙ ap (λ (b : Bool). cond b None (Some (frame start v))) (ne_eqb v 0 c.if-entry-eq0.false)
+    ∙ ap (λ (q : ℕ). Some (record { start = start; len = 4096; place = Some q })) p)

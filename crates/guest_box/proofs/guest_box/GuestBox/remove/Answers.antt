@@ -1,33 +1,25 @@
--- The edit is of the regions that the memory keeps, which pass their questions.
-use Rattle.std.proofs.Common.{◌≡◌, ℕ, List, Ok, Err, vec_len, Result, Vec, refl, ap, ◌∙◌}
-use Rattle.std.specs.declared.alloc.Global.{Global}
-use Rattle.region.specs.declared.slot.SlotRegion.{SlotRegion}
-use Rattle.table.specs.declared.error.GuestRegionCollectionError.{GuestRegionCollectionError}
-use Rattle.refusal.specs.declared.Refusal.{Refusal}
+-- The removal is from the regions that the memory keeps, which pass their questions.
+use Rattle.std.proofs.Common.{◌≡◌, vec_len, ap, ◌∙◌}
+use Rattle.std.proofs.lemmas.Result.{err_from_is_err_and}
 use Rattle.region.specs.Regions.{shown}
 use Rattle.region.specs.Slots.{slot_range, slot_place}
-use Rattle.answers.specs.declared.Answer.TheVariants.{Refused, Removed}
-use Rattle.regions.specs.Changes.{Removal}
+use Rattle.answers.specs.declared.Answer.TheVariants.{Removed}
+use Rattle.guest_box.specs.Memories.{held}
 use Rattle.guest_box.specs.Changes.{region_told}
-use Rattle.guest_box.proofs.Kept.{of_parts, table_kept}
-use Rattle.guest_box.proofs.Told.{removed_told, not_removed_told}
+use Rattle.guest_box.specs.contracts.guest_box.GuestBox.{the_view}
+use Rattle.guest_box.proofs.Told.{not_removed, removed}
 use Rattle.guest_box.proofs.guest_box.GuestBox.remove.Goals as goal
 
-pub invariant_of-self-in-Ok : goal.invariant_of-self-in-Ok
-invariant_of-self-in-Ok c =
-    let q = of_parts (λ (h : ℕ) (ys : List SlotRegion) (r : Result (Vec SlotRegion Global × SlotRegion) GuestRegionCollectionError). Removal h c.args.room ys c.args.start c.args.len r) (vec_len c.args.self.now.host) c.len.result c.in-Regions.regions c.args.self.now.memory c.as_slice.result.now c.in_ok-edited.edited (Ok (c.in-Ok.left, c.in-Ok.removed)) c.args.self.now.kept c.in-Regions.is c.len.ensures c.as_slice.ensures.value c.in-Ok.is c.in_ok-edited.ensures in
-    record { kept = table_kept (vec_len c.args.self.now.host) c.in-Ok.left q.2 }
+pub returns-in_err-left : goal.returns-in_err-left
+returns-in_err-left c =
+    let p = err_from_is_err_and c.from_residual.result c.from_residual.ensures.1 in
+    let came = rw (c.as_slice.ensures.value, c.len.ensures, c.self.inside.host.ok.0) at c.in_err-left.ensures in
+    rw (p.1, p.2, ← c.self.view_is) (not_removed (the_view c.self.inside) c.args.room c.args.start c.args.len _ (ap held c.in-Regions.is) c.self.invariant c.in_err-left.field-0.0 came)
 
-pub returns-in-Ok : goal.returns-in-Ok
-returns-in-Ok c =
-    let q = of_parts (λ (h : ℕ) (ys : List SlotRegion) (r : Result (Vec SlotRegion Global × SlotRegion) GuestRegionCollectionError). Removal h c.args.room ys c.args.start c.args.len r) (vec_len c.args.self.now.host) c.len.result c.in-Regions.regions c.args.self.now.memory c.as_slice.result.now c.in_ok-edited.edited (Ok (c.in-Ok.left, c.in-Ok.removed)) c.args.self.now.kept c.in-Regions.is c.len.ensures c.as_slice.ensures.value c.in-Ok.is c.in_ok-edited.ensures in
-    let t = removed_told c.args.room c.args.self.now.memory c.in-Regions.regions c.in-Regions.is (vec_len c.args.self.now.host) c.args.start c.args.len c.in-Ok.left c.in-Ok.removed c.len-count.result q c.len-count.ensures in
-    let told : Removed c.len-count.result (record { start = c.start_addr.result.0; len = c.len-in-Ok.result }) c.host_place.result ≡ region_told c.len-count.result (shown slot_range slot_place c.in-Ok.removed) =
-    λ i. Removed c.len-count.result (record { start = c.start_addr.ensures i; len = c.len-in-Ok.ensures i }) (c.host_place.ensures i) in
-    (told ∙ t.0, refl, refl, t.1)
-
-pub returns-in-Err : goal.returns-in-Err
-returns-in-Err c =
-    let q = of_parts (λ (h : ℕ) (ys : List SlotRegion) (r : Result (Vec SlotRegion Global × SlotRegion) GuestRegionCollectionError). Removal h c.args.room ys c.args.start c.args.len r) (vec_len c.args.self.now.host) c.len.result c.in-Regions.regions c.args.self.now.memory c.as_slice.result.now c.in_ok-edited.edited (Err c.in-Err.error) c.args.self.now.kept c.in-Regions.is c.len.ensures c.as_slice.ensures.value c.in-Err.is c.in_ok-edited.ensures in
-    let t = not_removed_told c.args.room c.args.self.now.memory c.in-Regions.regions c.in-Regions.is (vec_len c.args.self.now.host) c.args.start c.args.len c.in-Err.error q in
-    (ap (λ (r : Refusal). Refused r) c.into.ensures ∙ t.0, refl, refl, t.1)
+pub returns : goal.returns
+returns c =
+    let came = rw (c.as_slice.ensures.value, c.len.ensures, c.self.inside.host.ok.0) at c.in_ok-left.ensures in
+    let t = removed (the_view c.self.inside) c.args.room c.args.start c.args.len _ (ap held c.in-Regions.is) c.self.invariant c.in_ok-left.left c.in_ok-left.removed came in
+    let told : Removed c.len-count.result c.span_of.result c.host_place.result ≡ region_told (vec_len c.in_ok-left.left) (shown slot_range slot_place c.in_ok-left.removed) =
+    λ i. Removed (c.len-count.ensures i) (c.span_of.ensures i) (c.host_place.ensures i) in
+    rw (← c.self.view_is) (told ∙ t.0, t.1)
