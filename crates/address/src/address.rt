@@ -29,7 +29,8 @@ pub trait Address: Sized + Copy {
     }
 
     // The four sums and differences are the Rust's: each is a call of the number's own, so one function over
-    // a closure would save nothing. An address beside a bool is a rule of the project.
+    // a closure would save nothing, and of `map(Self::new)` no proof is made. An address beside a bool is a rule
+    // of the project.
 
     /// This address plus `other`; absent where that passes 2^64 - 1.
     fn checked_add(&self, other: u64) -> Option<Self>
@@ -65,11 +66,11 @@ pub trait Address: Sized + Copy {
 }
 
 /// An address in the guest's physical memory.
-#[derive(Clone, Copy, PartialEq, Eq)]
+#[derive(Clone, Copy, Debug, PartialEq, Eq)]
 pub struct GuestAddress(pub u64);
 
 /// An offset from the start of a region.
-#[derive(Clone, Copy, PartialEq, Eq)]
+#[derive(Clone, Copy, Debug, PartialEq, Eq)]
 pub struct MemoryRegionAddress(pub u64);
 
 // written out for each type: the gate refuses an impl that a macro writes

@@ -6,7 +6,7 @@ ghost use Rattle.refusal.specs.declared.Refusal.TheVariants.{BadPermissions as N
 use refusal::Refusal;
 
 /// What may be done at an address. The numbers are the raw values.
-#[derive(Clone, Copy, PartialEq, Eq)]
+#[derive(Clone, Copy, Debug, PartialEq, Eq)]
 pub enum Permissions {
     No = 0,
     Read = 1,
@@ -15,7 +15,7 @@ pub enum Permissions {
 }
 
 /// Refusal 14: the raw value is no permissions.
-#[derive(Clone, Copy, PartialEq, Eq)]
+#[derive(Clone, Copy, Debug, PartialEq, Eq)]
 pub struct BadPermissions;
 
 impl From<BadPermissions> for Refusal {

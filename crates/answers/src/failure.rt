@@ -8,7 +8,7 @@ use refusal::Refusal;
 use std::alloc::{AllocError, AllocFailed};
 
 /// Why a question has no answer of its own.
-#[derive(Drop)]
+#[derive(Clone, Copy, Debug, PartialEq, Eq)]
 pub enum Failure {
     /// It asks for what is not there yet.
     Error,

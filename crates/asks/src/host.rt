@@ -1,4 +1,4 @@
-// Questions about the host bytes.
+// Questions about the host bytes. The allocator goes first to whatever makes a vector, here and above.
 ghost use Rattle.std.specs.Prelude.{◌≡◌, ℕ, ◌<◌, IfOk, vec_len, slice_index};
 ghost use Rattle.pieces.specs.Pieces.{piece_bytes};
 ghost use Rattle.answers.specs.Failures.{Settles};

@@ -40,7 +40,7 @@ pub fn slices<M: GuestMemoryBackend>(
     memory: &M,
     address: u64,
     count: u64,
-    access: u64,
+    access: u64, // raw: it is asked here whether it is one
 ) -> Result<Answer, Failure>
     ensures { Settles result (λ x. Sliced (M.GuestMemoryBackend.meant memory.now) address count access x) }
 {

@@ -2,8 +2,8 @@
 use Rattle.std.proofs.Common.{◌≡◌, ℕ, ◌+◌, ◌-◌, ◌^◌, ◌<◌, ◌≤◌, true, List, length, Some, None, Option, sym, refl, ap, ◌∙◌, subst, arith, option_map}
 use Rattle.std.proofs.lemmas.Bool.Decides.{nat_tests}
 use Rattle.std.proofs.lemmas.Bool.{and_parts}
-use Rattle.std.proofs.lemmas.Option.{none-some, some_pair_parts}
-use Rattle.region.specs.Ranges.{covers}
+use Rattle.std.proofs.lemmas.Option.{none-some, same_Some, some_pair_parts}
+use Rattle.region.specs.Ranges.{covers, offset_of}
 use Rattle.region.specs.Regions.{Region, range_of, sound, placed}
 use Rattle.region.specs.Grounds.{Ground, KeepsMeaning, AllSound, holding}
 use Rattle.std.specs.Option.{MatchOption, SomeIff}
@@ -19,6 +19,14 @@ pub held_placed : (host : ℕ) (r : Region) (p : ℕ) → sound host r ≡ true 
 held_placed host r p e q =
     let h : placed host r.len (Some p) ≡ true = subst (λ (o : Option ℕ). placed host r.len o ≡ true) q (and_parts _ _ (and_parts _ _ e).1).1 in
     grind (arith, nat_tests)
+
+-- a region that holds an address has an offset for it
+
+pub inside : (r : Region) (a : ℕ) → covers (range_of r) a ≡ true → None ≡ offset_of (range_of r) a → ⊥
+inside r a e q = none-some (a - r.start) (rw e at q)
+
+pub offset_is : (r : Region) (a off : ℕ) → covers (range_of r) a ≡ true → Some off ≡ offset_of (range_of r) a → off ≡ a - r.start
+offset_is r a off e q = same_Some off (a - r.start) (rw e at q)
 
 located_some : (a off : ℕ) (r : Region) (o : Option Region) → ◌≡◌ {A = Option (Region × ℕ)} (Some (r, off)) (option_map (λ (x : Region). (x, a - x.start)) o) → (o ≡ Some r) × (off ≡ a - r.start)
 located_some a off r None e = absurd (none-some (r, off) (sym e))

@@ -38,8 +38,8 @@ pub trait GuestMemoryBackend {
         ensures { option_map (λ p. (shown slot_range slot_place p.0, p.1.0)) result ≡ located (meant self.now).regions addr.0 }
     {
         let region = self.region_at(addr)?;
-        let offset = addr.0.saturating_sub(region.start_addr().0);
-        Some((region, MemoryRegionAddress(offset)))
+        let offset = region.to_region_addr(addr)?;
+        Some((region, offset))
     }
 
     /// The region that holds the address, and the place of the address in the host buffer, where the

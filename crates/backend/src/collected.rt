@@ -25,6 +25,6 @@ impl<'a, R: GuestMemoryRegion> GuestMemoryBackend for GuestRegionCollection<'a, 
     }
 
     fn region_at(&self, addr: GuestAddress) -> Option<SlotRegion> {
-        self.find_region(addr).map(|region| slot_of(region))
+        self.find_region(addr).map(slot_of)
     }
 }

@@ -1,5 +1,5 @@
 // A collection of regions over a table that the caller holds.
-ghost use Rattle.std.specs.Prelude.{◌≡◌, ⊤, map, take};
+ghost use Rattle.std.specs.Prelude.{◌≡◌, ◌≤◌, ⊤, map, length, take};
 ghost use Rattle.region.specs.Regions.{shown};
 ghost use Rattle.region.specs.Grounds.{KeepsMeaning};
 
@@ -12,11 +12,12 @@ pub struct GuestRegionCollection<'a, R: GuestMemoryRegion> {
     pub(crate) table: &'a [R],
     pub(crate) count: usize,
     pub(crate) host_len: u64,
+    pub ghost counted: { count ≤ length table.now },
     // the table passed its questions when the collection was made
-    ghost lawful: { KeepsMeaning (record { host = host_len; regions = map (shown R.AddressRange.range R.GuestMemoryRegion.place) (take count table.now) }) },
+    pub ghost lawful: { KeepsMeaning (record { host = host_len; regions = map (shown R.AddressRange.range R.GuestMemoryRegion.place) (take count table.now) }) },
 }
 
-// by hand: a derive does not carry a ghost field over
+// by hand: over a type parameter, a derive of `Clone` is refused beside a ghost field
 impl<'a, R: GuestMemoryRegion> Clone for GuestRegionCollection<'a, R> {
     ghost is_clone = { λ x y. y ≡ x };
 

@@ -69,8 +69,7 @@ impl<'a, R: GuestMemoryRegion> GuestRegionCollection<'a, R> {
         ensures { result.now ≡ items self.now }
     {
         let table = self.table;
-        let count = self.count.min(table.len());
-        &table[..count]
+        &table[..self.count]
     }
 
     /// The number of regions.

@@ -50,8 +50,8 @@ fn perform_in(guest: &mut GuestBox, heap: Global, command: Command) -> Result<An
     match command {
         Command::Ram { start, len, place } => add(guest, ram(start, len, place)),
         Command::Window { start, len } => add(guest, window(start, len)),
-        Command::Collect => Ok(guest.collect(heap)?),
-        Command::Frames { base, entries } => Ok(guest.frame(base, entries)?),
+        Command::Collect => Ok(guest.collect(heap)),
+        Command::Frames { base, entries } => Ok(guest.frame(base, entries)),
         Command::InsertRam {
             room,
             start,
@@ -108,10 +108,10 @@ impl Exchange {
                 self.inner = Some(GuestBox::new(heap, len)?);
                 Ok(Answer::Done)
             }
-            other => match &mut self.inner {
-                Some(guest) => settled(perform_in(guest, heap, other)),
-                None => Ok(Answer::Error),
-            },
+            other => settled(match &mut self.inner {
+                Some(guest) => perform_in(guest, heap, other),
+                None => Err(Failure::Error),
+            }),
         }
     }
 }

@@ -12,6 +12,8 @@ impl Exchange {
     pub fn answer(&mut self, heap: Global, line: &[u8]) -> Result<Option<Answer>, AllocError>
         ensures { IfOk result (λ o. AnswersLine line.now self.old.inner o self.new.inner) }
     {
+        // here the failures of reading and of asking meet: the crates that have them do not know each
+        // other
         match read_line(heap, line) {
             Ok(None) => Ok(None),
             Ok(Some(command)) => Ok(Some(self.perform(heap, command)?)),

@@ -21,10 +21,10 @@ fn is_well_shaped(base: GuestAddress, entries: &[u32]) -> bool
     ensures { result ≡ well_shaped base.0 entries.now }
 {
     let count = entries.len();
-    if base.0 % FRAME != 0 || count < 1 || count > 1024 {
-        return false;
-    }
-    base.0 <= u64::MAX - (FRAME * count as u64 - 1)
+    base.0 % FRAME == 0
+        && count >= 1
+        && count <= 1024
+        && base.0 <= u64::MAX - (FRAME * count as u64 - 1)
 }
 
 /// The end of a present frame in the host buffer, by its entry.

@@ -1,11 +1,11 @@
 // What a box is asked: about its memory, and about its host bytes.
-ghost use Rattle.std.specs.Prelude.{◌≡◌, length};
+ghost use Rattle.std.specs.Prelude.{◌≡◌, true, length};
 ghost use Rattle.pieces.specs.Pieces.{piece_bytes};
 ghost use Rattle.answers.specs.declared.Answer.TheVariants.{Number};
 ghost use Rattle.answers.specs.Failures.{Settles};
 ghost use Rattle.asks.specs.Asked.{fnv, Shown};
 ghost use Rattle.survey.specs.Questions.{AnswersTo};
-ghost use Rattle.guest_box.specs.Memories.{ground_held};
+ghost use Rattle.guest_box.specs.Memories.{ground_held, passes};
 
 use crate::guest_box::GuestBox;
 use crate::memory::Memory;
@@ -25,7 +25,7 @@ impl GuestBox {
     pub fn ask(&self, heap: Global, question: Question) -> Result<Answer, Failure>
         ensures { Settles result (λ x. AnswersTo (ground_held (length self.now.host) self.now.memory) question x) }
     {
-        let host_len = self.host.len() as u64;
+        let host_len = self.host_len();
         // the parts passed their questions once, so each `unwrap` is proved to find what they make
         match &self.memory {
             Memory::Absent => Err(Failure::Error),
@@ -46,14 +46,15 @@ impl GuestBox {
         ensures { Settles result (λ x. Shown (piece_bytes (length self.now.host) self.now.host piece) x) }
     {
         let memory: GuestRegionCollection<'_, SlotRegion> = GuestRegionCollection::new(
-            self.host.len() as u64,
+            self.host_len(),
         );
         asks::host::bytes(heap, &memory, self.host.as_slice(), piece)
     }
 
     /// The hash of the whole host buffer.
     pub fn digest(&self) -> Answer
-        ensures { result ≡ Number (fnv 0xcbf29ce484222325 self.now.host) }
+        ensures answer { result ≡ Number (fnv 0xcbf29ce484222325 self.now.host) }
+        ensures kept { passes (length self.now.host) self.now.memory ≡ true }
     {
         Answer::Number(asks::host::digest(self.host.as_slice()))
     }

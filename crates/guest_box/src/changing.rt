@@ -14,6 +14,9 @@ use region::slot::SlotRegion;
 use regions::{with_region, without_region};
 use std::alloc::Global;
 
+// Both begin by taking the regions out of the memory: a function of that would have to promise more than
+// the lines say.
+
 impl GuestBox {
     /// Inserts a region, the table for the new collection having `room` entries. An error where the
     /// memory is no collection.
@@ -23,13 +26,7 @@ impl GuestBox {
         let Memory::Regions(regions) = &self.memory else {
             return Err(Failure::Error);
         };
-        let inserted = with_region(
-            heap,
-            regions.as_slice(),
-            self.host.len() as u64,
-            room,
-            region,
-        )?;
+        let inserted = with_region(heap, regions.as_slice(), self.host_len(), room, region)?;
         let count = inserted.len() as u64;
         self.memory = Memory::Regions(inserted);
         Ok(Answer::Number(count))
@@ -51,7 +48,7 @@ impl GuestBox {
         let (left, removed) = without_region(
             heap,
             regions.as_slice(),
-            self.host.len() as u64,
+            self.host_len(),
             room,
             start,
             len,

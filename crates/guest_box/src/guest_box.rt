@@ -1,4 +1,6 @@
 // A box: its host bytes, the regions to collect, and its memory.
+ghost use Rattle.std.specs.Prelude.{◌≡◌, length};
+
 use crate::memory::Memory;
 use region::slot::SlotRegion;
 use std::marker::Model;
@@ -20,4 +22,13 @@ impl Model for GuestBox {
 
     // the memory passed its questions when it was made, so it does so again
     ghost invariant = { λ b. passes (length b.host.items) (held b.memory) ≡ true };
+}
+
+impl GuestBox {
+    /// The number of host bytes.
+    pub(crate) fn host_len(&self) -> u64
+        ensures { result ≡ length self.now.host }
+    {
+        self.host.len() as u64
+    }
 }

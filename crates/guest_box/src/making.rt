@@ -40,12 +40,20 @@ impl GuestBox {
     }
 
     /// Makes the collection of the regions added; after it, refused or not, none is left to collect.
-    pub fn collect(&mut self, heap: Global) -> Result<Answer, Refusal>
+    pub fn collect(&mut self, heap: Global) -> Answer
+        ensures answer { result ≡ counted_or_refused (length self.old.pending) (collect_fault self.old) }
+        ensures state { self.new ≡ record { host = self.old.host; pending = []; memory = held_if (collect_fault self.old) (over self.old.pending) self.old.memory } }
+    {
+        self.try_collect(heap).unwrap_or_else(Answer::Refused)
+    }
+
+    /// The number of regions collected, or the refusal.
+    fn try_collect(&mut self, heap: Global) -> Result<Answer, Refusal>
         ensures answer { let answer = counted_or_refused (length self.old.pending) (collect_fault self.old) in MatchResult result (λ x. x ≡ answer) (λ r. Refused r ≡ answer) }
         ensures state { self.new ≡ record { host = self.old.host; pending = []; memory = held_if (collect_fault self.old) (over self.old.pending) self.old.memory } }
     {
         let regions = std::mem::replace(&mut self.pending, Vec::new(heap));
-        let host_len = self.host.len() as u64;
+        let host_len = self.host_len();
         GuestRegionCollection::from_regions(regions.as_slice(), host_len)?;
         let count = regions.len() as u64;
         self.memory = Memory::Regions(regions);
@@ -53,12 +61,21 @@ impl GuestBox {
     }
 
     /// Makes frame memory from its entries.
-    pub fn frame(&mut self, base: u64, entries: Vec<u32>) -> Result<Answer, Refusal>
+    pub fn frame(&mut self, base: u64, entries: Vec<u32>) -> Answer
+        ensures answer { result ≡ counted_or_refused (length (frames base entries.items)) (frames_fault (length self.old.host) base entries.items) }
+        ensures state { self.new ≡ with_memory self.old (held_if (frames_fault (length self.old.host) base entries.items) (framed base entries.items) self.old.memory) }
+    {
+        self.try_frame(base, entries)
+            .unwrap_or_else(Answer::Refused)
+    }
+
+    /// The number of regions of the frame memory made, or the refusal.
+    fn try_frame(&mut self, base: u64, entries: Vec<u32>) -> Result<Answer, Refusal>
         ensures answer { let answer = counted_or_refused (length (frames base entries.items)) (frames_fault (length self.old.host) base entries.items) in MatchResult result (λ x. x ≡ answer) (λ r. Refused r ≡ answer) }
         ensures state { self.new ≡ with_memory self.old (held_if (frames_fault (length self.old.host) base entries.items) (framed base entries.items) self.old.memory) }
     {
         let base = GuestAddress(base);
-        let host_len = self.host.len() as u64;
+        let host_len = self.host_len();
         let memory = FrameMemory::new(base, entries.as_slice(), host_len)?;
         let count = memory.num_regions() as u64;
         self.memory = Memory::Frames(base, entries);

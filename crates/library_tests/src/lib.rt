@@ -90,7 +90,7 @@ mod tests {
 
     fn of_raw(raw: u64) -> Result<u8, (u8, u64)> {
         Permissions::try_from(raw)
-            .map(|permissions| u8::from(permissions))
+            .map(u8::from)
             .map_err(|error| told(error.into()))
     }
 
@@ -189,9 +189,7 @@ mod tests {
     #[test]
     fn insertion(rt: HostRuntime) -> Result<(), Fail> {
         let table = [ram(0x1000, 0x1000, 0), ram(0x4000, 0x1000, 0x1000)];
-        let Ok(memory) = GuestRegionCollection::from_regions(&table, 0x3000) else {
-            return Err(Fail::new("the table is refused"));
-        };
+        let memory = GuestRegionCollection::from_regions(&table, 0x3000)?;
         let new = ram(0x2000, 0x800, 0x2000);
         let mut small = [ram(7, 1, 0), ram(8, 1, 0)];
         assert_eq!(rt; refused(memory.insert_region(new, &mut small)), (5, 0));
@@ -252,9 +250,7 @@ mod tests {
             ram(0x2000, 0x800, 0x1000),
             ram(0x4000, 0x1000, 0x1800),
         ];
-        let Ok(memory) = GuestRegionCollection::from_regions(&table, 0x3000) else {
-            return Err(Fail::new("the table is refused"));
-        };
+        let memory = GuestRegionCollection::from_regions(&table, 0x3000)?;
         let mut dest = [ram(5, 1, 0), ram(6, 1, 0), ram(7, 1, 0), ram(8, 1, 0)];
         assert_eq!(rt; removed(&memory, 0x2000, 0x7ff, &mut dest), Err((1, 0)));
         assert_eq!(rt; removed(&memory, 0x2001, 0x800, &mut dest), Err((1, 0)));
@@ -264,9 +260,7 @@ mod tests {
         assert_eq!(rt; removed(&memory, 0x2000, 0x800, &mut dest), Ok((2, 0x2000)));
         assert_eq!(rt; starts(&dest), [0x1000, 0x4000, 7, 8]);
         let one = [ram(0x1000, 0x1000, 0)];
-        let Ok(last) = GuestRegionCollection::from_regions(&one, 0x1000) else {
-            return Err(Fail::new("the table is refused"));
-        };
+        let last = GuestRegionCollection::from_regions(&one, 0x1000)?;
         assert_eq!(rt; removed(&last, 0x1000, 0x1000, &mut []), Ok((0, 0x1000)));
         assert_eq!(rt;
             refused(GuestRegionCollection::from_edited(&dest, 0, 0x1000)),
@@ -296,9 +290,7 @@ mod tests {
             ram(0x2000, 0x800, 0x1000),
             ram(TOP - 0xfff, 0x1000, 0),
         ];
-        let Ok(memory) = GuestRegionCollection::from_regions(&table, 0x3000) else {
-            return Err(Fail::new("the table is refused"));
-        };
+        let memory = GuestRegionCollection::from_regions(&table, 0x3000)?;
         for (addr, start) in [
             (0, None),
             (0xfff, None),
@@ -329,9 +321,7 @@ mod tests {
             SlotRegion::Ram(ram(0x1000, 0x1000, 0x20)),
             window(0x2000, 0x1000),
         ];
-        let Ok(memory) = GuestRegionCollection::from_regions(&table, 0x1020) else {
-            return Err(Fail::new("the table is refused"));
-        };
+        let memory = GuestRegionCollection::from_regions(&table, 0x1020)?;
         for (addr, answer) in [
             (0xfff, None),
             (0x1fff, Some((0x1000, Some(0x101f)))),
@@ -378,9 +368,7 @@ mod tests {
     #[test]
     fn found_frames(rt: HostRuntime) -> Result<(), Fail> {
         let entries: [u32; 4] = [2, 0, 1, 0];
-        let Ok(memory) = FrameMemory::new(GuestAddress(0x10000), &entries, 0x2000) else {
-            return Err(Fail::new("the entries are refused"));
-        };
+        let memory = FrameMemory::new(GuestAddress(0x10000), &entries, 0x2000)?;
         assert_eq!(rt; (memory.num_regions(), memory.last_addr().0), (2, 0x12fff));
         for (addr, answer) in [
             (0xffff, None),
@@ -396,17 +384,13 @@ mod tests {
             assert_eq!(rt; resolved(&memory, addr), answer, "{}", addr);
         }
         let present: [u32; 1] = [1];
-        let Ok(high) = FrameMemory::new(GuestAddress(TOP - 0xfff), &present, 0x1000) else {
-            return Err(Fail::new("the entries are refused"));
-        };
+        let high = FrameMemory::new(GuestAddress(TOP - 0xfff), &present, 0x1000)?;
         assert_eq!(rt;
             (high.last_addr().0, resolved(&high, TOP)),
             (TOP, Some((TOP - 0xfff, Some(0xfff))))
         );
         let absent: [u32; 1] = [0];
-        let Ok(none) = FrameMemory::new(GuestAddress(0x1000), &absent, 0) else {
-            return Err(Fail::new("the entries are refused"));
-        };
+        let none = FrameMemory::new(GuestAddress(0x1000), &absent, 0)?;
         assert_eq!(rt; (none.num_regions(), none.last_addr().0), (0, 0));
         Ok(())
     }
@@ -429,9 +413,7 @@ mod tests {
             ram(0x2000, 0x800, 0x1000),
             ram(0x4000, 0x1000, 0x1800),
         ];
-        let Ok(memory) = GuestRegionCollection::from_regions(&table, 0x3000) else {
-            return Err(Fail::new("the table is refused"));
-        };
+        let memory = GuestRegionCollection::from_regions(&table, 0x3000)?;
         let mut cursor = PhysicalCursor::new(GuestAddress(0x1f00), 0x200);
         assert_eq!(rt; drawn(&mut cursor, &memory), Ok(Some((0xf00, 0x100))));
         assert_eq!(rt; drawn(&mut cursor, &memory), Ok(Some((0x1000, 0x100))));
@@ -448,9 +430,7 @@ mod tests {
     #[test]
     fn draws_at_the_ends(rt: HostRuntime) -> Result<(), Fail> {
         let table = [ram(0, 0x1000, 0), ram(TOP - 0xfff, 0x1000, 0x1000)];
-        let Ok(memory) = GuestRegionCollection::from_regions(&table, 0x2000) else {
-            return Err(Fail::new("the table is refused"));
-        };
+        let memory = GuestRegionCollection::from_regions(&table, 0x2000)?;
         let mut round = PhysicalCursor::new(GuestAddress(TOP - 0xf), 0x20);
         assert_eq!(rt; drawn(&mut round, &memory), Ok(Some((0x1ff0, 0x10))));
         assert_eq!(rt; drawn(&mut round, &memory), Ok(Some((0, 0x10))));
@@ -459,9 +439,7 @@ mod tests {
             SlotRegion::Ram(ram(0x1000, 0x1000, 0)),
             window(0x2000, 0x1000),
         ];
-        let Ok(devices) = GuestRegionCollection::from_regions(&slots, 0x1000) else {
-            return Err(Fail::new("the table is refused"));
-        };
+        let devices = GuestRegionCollection::from_regions(&slots, 0x1000)?;
         let mut cursor = PhysicalCursor::new(GuestAddress(0x1ffe), 4);
         assert_eq!(rt; drawn(&mut cursor, &devices), Ok(Some((0xffe, 2))));
         assert_eq!(rt; drawn(&mut cursor, &devices), Err((10, 0)));
@@ -472,9 +450,7 @@ mod tests {
     #[test]
     fn draws_of_frames(rt: HostRuntime) -> Result<(), Fail> {
         let entries: [u32; 3] = [2, 1, 0];
-        let Ok(memory) = FrameMemory::new(GuestAddress(0x10000), &entries, 0x2000) else {
-            return Err(Fail::new("the entries are refused"));
-        };
+        let memory = FrameMemory::new(GuestAddress(0x10000), &entries, 0x2000)?;
         let mut cursor = PhysicalCursor::new(GuestAddress(0x10ff0), 0x2000);
         assert_eq!(rt; drawn(&mut cursor, &memory), Ok(Some((0x1ff0, 0x10))));
         assert_eq!(rt; drawn(&mut cursor, &memory), Ok(Some((0, 0x1000))));

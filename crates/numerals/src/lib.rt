@@ -58,6 +58,8 @@ impl<'a> fmt::Display for HexBytes<'a> {
         if self.0.is_empty() {
             return f.write_str("-");
         }
+        // a `try_for_each` here leaves open what was written (tried): nothing is known of what its
+        // closure changed
         for &b in self.0 {
             write!(f, "{b:02x}")?;
         }

@@ -2,8 +2,8 @@
 -- sound, so none of the guards refuses, and the piece is the longest.
 use Rattle.std.proofs.Common.{◌≡◌, ℕ, ◌+◌, ◌-◌, ◌^◌, ◌<◌, ◌≤◌, min, Bool, true, false, cond, eqb, leb, map, length, Some, None, Ok, Err, Option, sym, refl, ap, ◌∙◌, arith, slice_get, option_map, option_and_then}
 use Rattle.std.proofs.lemmas.List.{length-map}
-use Rattle.std.proofs.lemmas.Option.{none-some, same_Some, slice_get-get_or}
-use Rattle.region.specs.Ranges.{Range, covers, offset_of}
+use Rattle.std.proofs.lemmas.Option.{slice_get-get_or}
+use Rattle.region.specs.Ranges.{Range, covers}
 use Rattle.region.specs.Regions.{Region, range_of, sound}
 use Rattle.region.specs.Grounds.{Ground, KeepsMeaning, holding}
 use Rattle.table.proofs.Tables.{covers_here, covers_parts, found_at}
@@ -43,14 +43,6 @@ same_region g k a b r e lo hi =
     ∙ slice_get-get_or rs i.0 (record { start = 0; len = 0; place = None }) i.1
     ∙ ap (λ (x : Region). Some x) i.2
 
--- the guards do not refuse
-
-pub inside : (r : Region) (a : ℕ) → covers (range_of r) a ≡ true → None ≡ offset_of (range_of r) a → ⊥
-inside r a e q = none-some (a - r.start) (rw e at q)
-
-pub offset_is : (r : Region) (a off : ℕ) → covers (range_of r) a ≡ true → Some off ≡ offset_of (range_of r) a → off ≡ a - r.start
-offset_is r a off e q = same_Some off (a - r.start) (rw e at q)
-
 -- the piece is the longest
 
 module _ (g : Ground) (k : KeepsMeaning g) (a n : ℕ) (p : Piece) where
@@ -61,7 +53,7 @@ module _ (g : Ground) (k : KeepsMeaning g) (a n : ℕ) (p : Piece) where
       record {
         bytes = λ i l.
             let s : q + (a + i - r.start) ≡ p.place + i = omega (arith, h.low) in
-            ap (option_and_then (λ (x : Region). place_in x (a + i))) (in_r i l) ∙ ap (option_map (λ (m : ℕ). m + (a + i - r.start))) w ∙ ap (λ (m : ℕ). Some m) s;
+            rw (in_r i l, w, s) refl;
         region = λ i l. in_r i l ∙ e;
         longest = λ l same.
             let b = covers_parts (range_of r) (a + p.len) (held g.host g.regions (a + p.len) r k.1 (same ∙ sym e)).1 in

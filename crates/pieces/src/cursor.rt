@@ -16,8 +16,7 @@ fn ends_within(place: u64, offset: u64, len: u64, host_len: u64) -> bool
     place <= host_len && offset <= host_len - place && len <= host_len - place - offset
 }
 
-/// The piece of at most `count` bytes, at least one, from the address on. That it ends within the host
-/// buffer is asked though no backend that keeps its meaning is refused there.
+/// The piece of at most `count` bytes, at least one, from the address on.
 fn piece_at<M: GuestMemoryBackend>(
     memory: &M,
     addr: GuestAddress,
@@ -27,6 +26,7 @@ fn piece_at<M: GuestMemoryBackend>(
     ensures within { IfOk result (λ p. Within (M.GuestMemoryBackend.meant memory.now).host count p) }
     ensures exact { some_piece result ≡ drawn (M.GuestMemoryBackend.meant memory.now) addr.0 count }
 {
+    // the backend's `to_region_addr` in place of these two (tried) leaves six goals open, these two leave two
     let region = memory
         .region_at(addr)
         .ok_or(GuestMemoryError::InvalidGuestAddress(addr))?;
@@ -40,6 +40,7 @@ fn piece_at<M: GuestMemoryBackend>(
     let place = region
         .host_place()
         .ok_or(GuestMemoryError::HostAddressNotAvailable)?;
+    // never a no, since a region ends within the host buffer: it shows that the sum below fits
     if !ends_within(place, offset, len, memory.host_len()) {
         return Err(GuestMemoryError::HostAddressNotAvailable);
     }

@@ -5,7 +5,7 @@ ghost use Rattle.pieces.specs.Refused.{memory_refusal};
 use address::address::GuestAddress;
 use refusal::Refusal;
 
-#[derive(Clone, Copy, PartialEq, Eq)]
+#[derive(Clone, Copy, Debug, PartialEq, Eq)]
 pub enum GuestMemoryError {
     /// The host buffer has not the stated length.
     BadHost,

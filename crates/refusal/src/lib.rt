@@ -5,7 +5,7 @@ ghost use Rattle.std.specs.Prelude.{◌≡◌};
 ghost use Rattle.refusal.specs.Refusals.{number, name};
 
 /// Why a request was refused, with what a reader needs to find the fault.
-#[derive(Clone, Copy, PartialEq, Eq, Drop)]
+#[derive(Clone, Copy, Debug, PartialEq, Eq, Drop)]
 pub enum Refusal {
     NoMemoryRegion,
     UnsortedMemoryRegions,
@@ -42,6 +42,7 @@ impl Refusal {
         }
     }
 
+    // by hand: a derived `Debug` prints the details too, and is no name to be lent
     /// The name under which the refusal is listed.
     pub fn name(&self) -> &'static str
         ensures { result.now ≡ name self.now }

@@ -34,7 +34,7 @@ impl GuestMemoryRegion for RamRegion {
     }
 }
 
-/// RAM, or a window: addresses without host memory.
+/// RAM, or a window: addresses without host memory. The project tells the two apart by these words.
 #[derive(Clone, Copy)]
 pub enum SlotRegion {
     Ram(RamRegion),

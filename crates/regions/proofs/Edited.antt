@@ -54,7 +54,7 @@ module _ (host room : ℕ) (xs : List SlotRegion) where
       let i = length-insert xs (place_in (map slot_range xs) (slot_range new)) new (omega arith) in (
         sym (same_insert new before l) ∙ q.0,
         e ∙ ap (take n) q.2 ∙ take_at (insert xs (place_in (map slot_range xs) (slot_range new)) new) (drop n before) n (i ∙ sym q.1),
-        ap (λ (ys : List SlotRegion). table_fault host (map f ys)) e ∙ kept_passes host (map f (take n after)) q.3,
+        rw e (kept_passes host (map f (take n after)) q.3),
       )
 
   same_remove : (start len : ℕ) (before : List SlotRegion) → length before ≡ min room (length xs) → remove_fault (length before) (map slot_range xs) start len ≡ remove_fault room (map slot_range xs) start len
@@ -66,5 +66,5 @@ module _ (host room : ℕ) (xs : List SlotRegion) where
       let c = length-remove xs i (index_within xs start len i q.2.1) in (
         sym (same_remove start len before l) ∙ q.0,
         (i, q.2.1, q.2.2, e ∙ ap (take n) q.2.3 ∙ take_at (remove xs i) (drop n before) n (omega (arith, q.1))),
-        ap (λ (ys : List SlotRegion). table_fault host (map f ys)) e ∙ kept_passes host (map f (take n after)) q.3,
+        rw e (kept_passes host (map f (take n after)) q.3),
       )

@@ -9,7 +9,7 @@ use std::alloc::AllocError;
 use table::error::GuestRegionCollectionError;
 
 /// Why the regions are not edited: a refusal, or want of memory for the new table.
-#[derive(Drop)]
+#[derive(Clone, Copy, Debug, PartialEq, Eq)]
 pub enum EditError {
     Refused(GuestRegionCollectionError),
     Alloc(AllocError),

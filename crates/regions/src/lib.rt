@@ -27,6 +27,7 @@ fn table_of(heap: Global, room: u64, most: usize) -> Result<Vec<SlotRegion>, All
     Vec::from_elem(heap, blank, room.min(most as u64) as usize)
 }
 
+// A start and a length, a table and a host length go side by side, as the command and the box have them.
 // The two edits are alike but for one call. One function over a closure would need a contract of what
 // the closure writes, longer than these lines.
 

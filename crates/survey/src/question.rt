@@ -1,6 +1,7 @@
 // What a memory can be asked.
 
-// a closure over the memory in its place would have to be generic over backends, which no closure is
+// A value, and no closure over the memory: the contract says what is answered to which question, and a
+// closure would have to be generic over backends, which none is.
 #[derive(Clone, Copy)]
 pub enum Question {
     /// How many regions?
@@ -13,6 +14,7 @@ pub enum Question {
     Slices {
         address: u64,
         count: u64,
+        // raw, as the command has it
         access: u64,
     },
 }

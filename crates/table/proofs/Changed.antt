@@ -35,14 +35,14 @@ module _ {R : Type 0} (range : R → Range) (place : R → Option ℕ) (host : �
   insertion new after i h le e fit k a =
       let n = length-map xs f in
       let m = length-map xs range in
-      let t : take (length xs + 1) after ≡ insert xs i new = ap (take (length xs + 1)) a ∙ take_at (insert xs i new) (drop (length xs + 1) before) (length xs + 1) (length-insert xs i new le) in
+      let t : take (length xs + 1) after ≡ insert xs i new = rw a (take_at (insert xs i new) (drop (length xs + 1) before) (length xs + 1) (length-insert xs i new le)) in
       let whole : KeepsMeaning (record { host = host; regions = insert (map f xs) i (f new) }) =
       kept_inserted host (map f xs) i (f new) (omega arith) k e
       (λ j l. rw (ranges range place xs) (fit.2 j l)) (λ l. rw (ranges range place xs) (fit.3 (omega arith))) in (
         asked new false true true (le-ltb (length before) (length xs + 1) (omega arith)) e fit.0,
         refl,
         a ∙ ap (λ (j : ℕ). insert xs j new ++ drop (length xs + 1) before) fit.1,
-        subst (λ (rs : List Region). KeepsMeaning (record { host = host; regions = rs })) (sym (ap (map f) t ∙ map_inserted f xs i new)) whole,
+        rw (t, map_inserted f xs i new) whole,
       )
 
   some_len : KeepsMeaning (record { host = host; regions = map f xs }) → (k : ℕ) → k < length xs → 0 < (range_at (map range xs) k).len
@@ -96,9 +96,9 @@ module _ {R : Type 0} (range : R → Range) (place : R → Option ℕ) (host : �
   removal start len i x after e lt h q k a =
       let n = length-map xs f in
       let c = length-remove xs i lt in
-      let t : take (length xs - 1) after ≡ remove xs i = ap (take (length xs - 1)) a ∙ take_at (remove xs i) (drop (length xs - 1) before) (length xs - 1) (omega arith) in (
+      let t : take (length xs - 1) after ≡ remove xs i = rw a (take_at (remove xs i) (drop (length xs - 1) before) (length xs - 1) (omega arith)) in (
         removal_asked start len (Some i) e ∙ ap (λ (b : Bool). cond b (Some NoRoom) None) (le-ltb (length before) (length xs - 1) h),
         omega arith,
         (i, e, q, a),
-        subst (λ (rs : List Region). KeepsMeaning (record { host = host; regions = rs })) (sym (ap (map f) t ∙ map_removed f xs i)) (kept_removed host (map f xs) i (omega arith) k),
+        rw (t, map_removed f xs i) (kept_removed host (map f xs) i (omega arith) k),
       )

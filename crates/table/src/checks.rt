@@ -13,7 +13,7 @@ use region::region::{AddressRange, GuestMemoryRegion, is_sound};
 pub fn first_unsound_index<R: GuestMemoryRegion>(table: &[R], host_len: u64) -> Option<usize>
     ensures { result ≡ first_unsound host_len (map (shown R.AddressRange.range R.GuestMemoryRegion.place) table.now) }
 {
-    // a rule of the project: a check visits each region in table order, by a `for` with the index
+    // a rule of the project: a check visits each region in table order, by a `for`, with the index that it tells
     for (i, region) in table.iter().enumerate() {
         if !is_sound(region, host_len) {
             return Some(i);
@@ -23,7 +23,10 @@ pub fn first_unsound_index<R: GuestMemoryRegion>(table: &[R], host_len: u64) -> 
 }
 
 /// Refuses a pair of neighbours that is not in order, or that shares an address.
-fn check_pair<R: AddressRange>(left: &R, right: &R) -> Result<(), GuestRegionCollectionError>
+pub(crate) fn check_pair<R: AddressRange>(
+    left: &R,
+    right: &R,
+) -> Result<(), GuestRegionCollectionError>
     ensures { result_err result ≡ pair_fault (R.AddressRange.range left.now) (R.AddressRange.range right.now) }
 {
     let gap = right

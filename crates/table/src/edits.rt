@@ -1,11 +1,12 @@
 // Insertion and removal, written once for tables of any region type: the new table goes into a second
-// one, whose further entries keep their values.
+// one, whose further entries keep their values. The two tables are lent apart: one is read, one written.
 ghost use Rattle.std.specs.Prelude.{◌≡◌, ℕ, ◌+◌, ◌-◌, ◌<◌, ◌≤◌, ◌++◌, map, length, drop, IfSome, Decides, MatchResult};
 ghost use Rattle.std.specs.List.{insert, remove};
 ghost use Rattle.region.specs.Grounds.{Apart, Ascending, KeepsMeaning};
 ghost use Rattle.region.specs.Regions.{shown};
 ghost use Rattle.table.specs.Edits.{Fitted, Inserts, Removes, exactly, exact_index};
 
+use crate::checks::check_pair;
 use crate::error::GuestRegionCollectionError;
 use crate::search::find_index;
 use address::address::GuestAddress;
@@ -15,9 +16,7 @@ use region::region::{AddressRange, GuestMemoryRegion, is_sound};
 fn ends_before<R: AddressRange>(left: &R, right: &R) -> bool
     ensures { Decides result (Apart (R.AddressRange.range left.now) (R.AddressRange.range right.now)) }
 {
-    let start = left.start_addr().0;
-    let next = right.start_addr().0;
-    start <= next && left.len() <= next - start
+    check_pair(left, right).is_ok()
 }
 
 /// The index at which a range fits between those of an ascending table, where it is clear of them.
@@ -53,6 +52,8 @@ fn remove_into<R: Copy>(table: &[R], i: usize, dest: &mut [R])
     dest[..i].copy_from_slice(&table[..i]);
     dest[i..table.len() - 1].copy_from_slice(&table[i + 1..]);
 }
+
+// A table is not known to keep its meaning, as a collection is: `exact` has it as a premise.
 
 /// Writes the regions of a table with one more into `dest`, and answers their number.
 pub fn insert<R: GuestMemoryRegion + Copy>(

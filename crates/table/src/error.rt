@@ -4,7 +4,7 @@ ghost use Rattle.table.specs.Refused.{table_refusal};
 
 use refusal::Refusal;
 
-#[derive(Clone, Copy, PartialEq, Eq)]
+#[derive(Clone, Copy, Debug, PartialEq, Eq)]
 pub enum GuestRegionCollectionError {
     /// There is no region, or none with this start and length.
     NoMemoryRegion,

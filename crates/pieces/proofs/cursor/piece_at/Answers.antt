@@ -3,7 +3,8 @@ use Rattle.std.proofs.Common.{◌+◌, ◌≤◌, sym, ◌∙◌, arith}
 use Rattle.std.proofs.lemmas.Bool.{both_ways}
 use Rattle.region.specs.Regions.{Region, shown}
 use Rattle.region.specs.Slots.{slot_range, slot_place}
-use Rattle.pieces.proofs.Drawn.{found, ends, inside, offset_is}
+use Rattle.backend.proofs.Held.{inside, offset_is}
+use Rattle.pieces.proofs.Drawn.{found, ends}
 use Rattle.pieces.proofs.cursor.piece_at.Goals as goal
 
 pub returns-in_err-offset-clause-exact : goal.returns-in_err-offset-clause-exact

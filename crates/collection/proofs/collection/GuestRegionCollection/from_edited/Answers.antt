@@ -11,7 +11,7 @@ returns-in_err-check_table g c =
     rw (p.1, p.2) (record { answer = edited_checked (shown g.R.AddressRange.range g.R.GuestMemoryRegion.place) c.args.host_len c.args.count c.args.table.now (omega arith) c.in_err-check_table.ensures })
 
 pub invariant_of-result : goal.invariant_of-result
-invariant_of-result g c = record { lawful = lawful_made c.args.host_len (map (shown g.R.AddressRange.range g.R.GuestMemoryRegion.place) (take c.args.count c.args.table.now)) (omega arith) (sym c.in_ok-check_table.ensures) }
+invariant_of-result g c = record { counted = omega arith; lawful = lawful_made c.args.host_len (map (shown g.R.AddressRange.range g.R.GuestMemoryRegion.place) (take c.args.count c.args.table.now)) (omega arith) (sym c.in_ok-check_table.ensures) }
 
 pub returns : goal.returns
 returns g c = record { answer = (edited_checked (shown g.R.AddressRange.range g.R.GuestMemoryRegion.place) c.args.host_len c.args.count c.args.table.now (omega arith) c.in_ok-check_table.ensures, refl, refl) }

@@ -1,5 +1,6 @@
 -- The removal is from the regions that the memory keeps, which pass their questions.
-use Rattle.std.proofs.Common.{◌≡◌, vec_len, ap, ◌∙◌}
+use Rattle.std.proofs.lemmas.Grind.{common_steps}
+use Rattle.std.proofs.Common.{arith, ◌≡◌, vec_len, ap, ◌∙◌}
 use Rattle.std.proofs.lemmas.Result.{err_from_is_err_and}
 use Rattle.region.specs.Regions.{shown}
 use Rattle.region.specs.Slots.{slot_range, slot_place}
@@ -13,13 +14,20 @@ use Rattle.guest_box.proofs.guest_box.GuestBox.remove.Goals as goal
 pub returns-in_err-left : goal.returns-in_err-left
 returns-in_err-left c =
     let p = err_from_is_err_and c.from_residual.result c.from_residual.ensures.1 in
-    let came = rw (c.as_slice.ensures.value, c.len.ensures, c.self.inside.host.ok.0) at c.in_err-left.ensures in
+    let len = rw (← c.self.view_is) at c.host_len.ensures in
+    let came = rw (c.as_slice.ensures.value, len) at c.in_err-left.ensures in
     rw (p.1, p.2, ← c.self.view_is) (not_removed (the_view c.self.inside) c.args.room c.args.start c.args.len _ (ap held c.in-Regions.is) c.self.invariant c.in_err-left.field-0.0 came)
 
 pub returns : goal.returns
 returns c =
-    let came = rw (c.as_slice.ensures.value, c.len.ensures, c.self.inside.host.ok.0) at c.in_ok-left.ensures in
+    let len = rw (← c.self.view_is) at c.host_len.ensures in
+    let came = rw (c.as_slice.ensures.value, len) at c.in_ok-left.ensures in
     let t = removed (the_view c.self.inside) c.args.room c.args.start c.args.len _ (ap held c.in-Regions.is) c.self.invariant c.in_ok-left.left c.in_ok-left.removed came in
     let told : Removed c.len-count.result c.span_of.result c.host_place.result ≡ region_told (vec_len c.in_ok-left.left) (shown slot_range slot_place c.in_ok-left.removed) =
     λ i. Removed (c.len-count.ensures i) (c.span_of.ensures i) (c.host_place.ensures i) in
     rw (← c.self.view_is) (told ∙ t.0, t.1)
+
+pub invariant_of-self : goal.invariant_of-self
+invariant_of-self c =
+    let len = rw (← c.self.view_is) at c.host_len.ensures in
+    grind (arith, common_steps)

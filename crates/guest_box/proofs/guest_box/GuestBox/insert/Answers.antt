@@ -1,0 +1,14 @@
+-- The regions inserted are asked of the fields, the length asked for is of the value.
+use Rattle.std.proofs.Common.{arith}
+use Rattle.std.proofs.lemmas.Grind.{common_steps}
+use Rattle.guest_box.proofs.guest_box.GuestBox.insert.Goals as goal
+
+pub invariant_of-self : goal.invariant_of-self
+invariant_of-self c =
+    let h = rw (← c.self.view_is) at c.host_len.ensures in
+    grind (arith, common_steps)
+
+pub returns : goal.returns
+returns c =
+    let h = rw (← c.self.view_is) at c.host_len.ensures in
+    grind (arith, common_steps)
