@@ -37,6 +37,8 @@ impl<'a, R: GuestMemoryRegion> GuestRegionCollection<'a, R> {
         })
     }
 
+    // a rule of the project: a count of regions beside the table that the caller holds
+
     /// The collection that an insertion or a removal left in the first `count` entries of a table; it
     /// may be empty. Refused where the table has fewer entries, then as for a whole table.
     pub fn from_edited(

@@ -14,6 +14,8 @@ use region::slot::{RamRegion, SlotRegion};
 use std::alloc::{AllocError, Global};
 use survey::question::Question;
 
+// a start and a length go side by side, as a command has them
+
 /// A RAM region by its numbers.
 fn ram(start: u64, len: u64, place: u64) -> SlotRegion
     ensures { result ≡ ram_slot start len place }

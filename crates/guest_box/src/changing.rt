@@ -15,7 +15,7 @@ use regions::{with_region, without_region};
 use std::alloc::Global;
 
 // Both begin by taking the regions out of the memory: a function of that would have to promise more than
-// the lines say.
+// the lines say. A start and a length go side by side, as the command has them.
 
 impl GuestBox {
     /// Inserts a region, the table for the new collection having `room` entries. An error where the

@@ -28,8 +28,8 @@ fn table_of(heap: Global, room: u64, most: usize) -> Result<Vec<SlotRegion>, All
 }
 
 // A start and a length, a table and a host length go side by side, as the command and the box have them.
-// The two edits are alike but for one call. One function over a closure would need a contract of what
-// the closure writes, longer than these lines.
+// The two edits are alike but for the call, the room and the answer. One function over a closure would need
+// a contract of what the closure writes, longer than these lines.
 
 /// The regions with one more, the table for them having `room` entries.
 pub fn with_region(

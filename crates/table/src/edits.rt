@@ -53,7 +53,8 @@ fn remove_into<R: Copy>(table: &[R], i: usize, dest: &mut [R])
     dest[i..table.len() - 1].copy_from_slice(&table[i + 1..]);
 }
 
-// A table is not known to keep its meaning, as a collection is: `exact` has it as a premise.
+// A table is not known to keep its meaning, as a collection is: `exact` has it as a premise, and the host
+// length stands beside the table.
 
 /// Writes the regions of a table with one more into `dest`, and answers their number.
 pub fn insert<R: GuestMemoryRegion + Copy>(
