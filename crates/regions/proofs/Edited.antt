@@ -1,6 +1,6 @@
 -- A table that keeps its meaning passes the questions of a table; and room beyond what is of use
 -- changes no answer.
-use Rattle.std.proofs.Common.{◌≡◌, ℕ, ◌+◌, ◌<◌, ◌≤◌, min, Bool, not, List, [], ◌∷◌, ◌++◌, map, length, take, drop, Some, None, Ok, vec_items, Vec, sym, ap, ◌∙◌, arith}
+use Rattle.std.proofs.Common.{◌≡◌, ℕ, ◌+◌, ◌<◌, ◌≤◌, min, not, List, [], ◌∷◌, ◌++◌, map, length, take, drop, Some, None, Ok, vec_items, Vec, sym, ap, ◌∙◌, arith}
 use Rattle.std.specs.List.{insert, remove}
 use Rattle.std.proofs.lemmas.List.{length-map, take_at}
 use Rattle.std.proofs.lemmas.List.Edits.{length-insert, length-remove}
