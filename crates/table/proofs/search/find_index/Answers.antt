@@ -1,28 +1,42 @@
-use Rattle.std.proofs.Common.{◌≡◌, ℕ, Bool, true, false, cond, leb, None, Some, Option, MatchOption, sym, ◌∙◌, arith, rules, option_map}
-use Rattle.std.proofs.lemmas.List.Sorted.{IsPartitionPoint-from_clause}
-use Rattle.address.specs.declared.address.MemoryRegionAddress.{MemoryRegionAddress}
-use Rattle.region.specs.Ranges.{covers}
-use Rattle.table.proofs.Tables.{cut_at, held_none, held_last}
+-- Each turn looks at the middle range: its start and its end tell which half is left.
+use Rattle.std.proofs.Common.{ℕ, ◌+◌, ◌-◌, ◌/◌, ◌<◌, map, length, sym, arith}
+use Rattle.std.proofs.lemmas.List.{length-map}
+use Rattle.region.specs.Grounds.{range_at}
+use Rattle.table.proofs.Tables.{start_read, len_read, above, below, covers_here, found_at, found_none}
 use Rattle.table.proofs.search.find_index.Goals as goal
 
--- where there is an offset, there is the index
-mapped : (b : Bool) (v i : ℕ) (o : Option MemoryRegionAddress) (p : Option ℕ) → option_map (λ m. m.0) o ≡ cond b (Some v) None → MatchOption o (p ≡ None) (λ _. p ≡ Some i) → p ≡ cond b (Some i) None
-mapped true v i None p e m = cc
-mapped true v i (Some x) p e m = m
-mapped false v i None p e m = m
-mapped false v i (Some x) p e m = cc
-
-pub returns-in_err-i-clause-exact : goal.returns-in_err-i-clause-exact
-returns-in_err-i-clause-exact g c = λ asc.
+pub loop-low-preserved-then-addr-start : goal.loop-low-preserved-then-addr-start
+loop-low-preserved-then-addr-start g c =
     let f = g.R.AddressRange.range in
-    let xs = c.args.table.now in
-    let point = IsPartitionPoint-from_clause (λ x. leb (f x).start c.args.addr.0) xs _ c.partition_point.ensures.partitioned (cut_at f xs c.args.addr.0 asc) (λ x r q k. search rules) in
-    rw c.from_residual.ensures (sym (held_none f xs c.args.addr.0 _ point (omega arith)))
+    let xs = map f c.args.table.now in
+    let mid : ℕ = c.loop-low.low + (c.loop-low.high - c.loop-low.low) / 2 in
+    let lt : mid < length c.args.table.now = omega arith in
+    let s = start_read f c.args.table.now mid c.index-table-mid.result lt c.index-table-mid.is c.start_addr-start.result.0 c.start_addr-start.ensures in
+    (omega arith, omega arith, λ q. ((c.loop-low.invariant.2 q).0, above xs (length c.args.table.now) q c.args.addr.0 mid (omega arith)))
 
-pub returns-clause-exact : goal.returns-clause-exact
-returns-clause-exact g c = λ asc.
+pub returns-then-addr-start-2 : goal.returns-then-addr-start-2
+returns-then-addr-start-2 g c =
     let f = g.R.AddressRange.range in
-    let xs = c.args.table.now in
-    let point = IsPartitionPoint-from_clause (λ x. leb (f x).start c.args.addr.0) xs _ c.partition_point.ensures.partitioned (cut_at f xs c.args.addr.0 asc) (λ x r q k. search rules) in
-    mapped (covers (f c.index-table-i.result) c.args.addr.0) _ c.in_ok-i.i c.to_region_addr.result c.map.result c.to_region_addr.ensures (search rules)
-    ∙ sym (held_last f xs c.args.addr.0 _ c.in_ok-i.i c.index-table-i.result asc point (omega arith) (omega arith) c.index-table-i.is)
+    let xs = map f c.args.table.now in
+    let mid : ℕ = c.loop-low.low + (c.loop-low.high - c.loop-low.low) / 2 in
+    let lt : mid < length c.args.table.now = omega arith in
+    let s = start_read f c.args.table.now mid c.index-table-mid.result lt c.index-table-mid.is c.start_addr-start.result.0 c.start_addr-start.ensures in
+    let n = len_read f c.args.table.now mid c.index-table-mid.result lt c.index-table-mid.is c.len.result c.len.ensures in
+    let m = length-map c.args.table.now f in
+    record { within = omega arith; exact = λ q. sym (found_at xs (length c.args.table.now) m q mid c.args.addr.0 lt (covers_here (range_at xs mid) c.args.addr.0 (omega arith) (omega arith))) }
+
+pub loop-low-preserved : goal.loop-low-preserved
+loop-low-preserved g c =
+    let f = g.R.AddressRange.range in
+    let xs = map f c.args.table.now in
+    let mid : ℕ = c.loop-low.low + (c.loop-low.high - c.loop-low.low) / 2 in
+    let lt : mid < length c.args.table.now = omega arith in
+    let s = start_read f c.args.table.now mid c.index-table-mid.result lt c.index-table-mid.is c.start_addr-start.result.0 c.start_addr-start.ensures in
+    let n = len_read f c.args.table.now mid c.index-table-mid.result lt c.index-table-mid.is c.len.result c.len.ensures in
+    (omega arith, omega arith, λ q. (below xs (length c.args.table.now) q c.args.addr.0 mid (omega arith) (omega arith) (omega arith), (c.loop-low.invariant.2 q).1))
+
+pub returns : goal.returns
+returns g c =
+    let xs = map g.R.AddressRange.range c.args.table.now in
+    let m = length-map c.args.table.now g.R.AddressRange.range in
+    record { within = tt; exact = λ q. sym (found_none xs c.loop-low.low c.args.addr.0 (c.loop-low.invariant.2 q).0 (λ k h l. (c.loop-low.invariant.2 q).1 k (omega arith) (omega arith))) }
