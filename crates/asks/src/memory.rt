@@ -25,7 +25,7 @@ pub fn span_of<R: AddressRange>(range: &R) -> Span
 
 /// The region that holds an address.
 pub fn find<M: GuestMemoryBackend>(memory: &M, address: u64) -> Answer
-    ensures { result ≡ found (M.GuestMemoryBackend.meant memory.now) address }
+    ensures { M.GuestMemoryBackend.lawful memory.now → result ≡ found (M.GuestMemoryBackend.meant memory.now) address }
 {
     memory
         .region_at(GuestAddress(address))
@@ -42,7 +42,7 @@ pub fn slices<M: GuestMemoryBackend>(
     count: u64,
     access: u64, // raw: it is asked here whether it is one
 ) -> Result<Answer, Failure>
-    ensures { Settles result (λ x. Sliced (M.GuestMemoryBackend.meant memory.now) address count access x) }
+    ensures { Settles result (λ x. M.GuestMemoryBackend.lawful memory.now → Sliced (M.GuestMemoryBackend.meant memory.now) address count access x) }
 {
     Permissions::try_from(access).map_err(Refusal::from)?;
     let mut cursor = PhysicalCursor::new(GuestAddress(address), count);

@@ -15,27 +15,22 @@ use region::slot::SlotRegion;
 pub trait GuestMemoryBackend {
     ghost meant: { Self → Ground };
 
-    ghost keeps: { (b : Self) → KeepsMeaning (meant b) };
+    // what making a backend gives and each call keeps
+    ghost lawful: { Self → Type 0 };
+
+    ghost keeps: { (b : Self) → lawful b → KeepsMeaning (meant b) };
 
     /// The length that the host buffer has to have.
     fn host_len(&self) -> u64
         ensures { result ≡ (meant self.now).host };
 
-    /// The number of regions.
-    fn num_regions(&self) -> usize
-        ensures { result ≡ length (meant self.now).regions };
-
-    /// The highest address of any region; 0 where there is none.
-    fn last_addr(&self) -> GuestAddress
-        ensures { result.0 ≡ highest (meant self.now).regions };
-
     /// The region that holds the address, or none.
     fn region_at(&self, addr: GuestAddress) -> Option<SlotRegion>
-        ensures { option_map (shown slot_range slot_place) result ≡ holding (meant self.now).regions addr.0 };
+        ensures { lawful self.now → option_map (shown slot_range slot_place) result ≡ holding (meant self.now).regions addr.0 };
 
     /// The region that holds the address, and how far the address lies above its start.
     fn to_region_addr(&self, addr: GuestAddress) -> Option<(SlotRegion, MemoryRegionAddress)>
-        ensures { option_map (λ p. (shown slot_range slot_place p.0, p.1.0)) result ≡ located (meant self.now).regions addr.0 }
+        ensures { lawful self.now → option_map (λ p. (shown slot_range slot_place p.0, p.1.0)) result ≡ located (meant self.now).regions addr.0 }
     {
         let region = self.region_at(addr)?;
         let offset = region.to_region_addr(addr)?;
@@ -45,7 +40,7 @@ pub trait GuestMemoryBackend {
     /// The region that holds the address, and the place of the address in the host buffer, where the
     /// region has host memory.
     fn resolve(&self, addr: GuestAddress) -> Option<(SlotRegion, Option<u64>)>
-        ensures { option_map (λ p. (shown slot_range slot_place p.0, p.1)) result ≡ resolved (meant self.now).regions addr.0 }
+        ensures { lawful self.now → option_map (λ p. (shown slot_range slot_place p.0, p.1)) result ≡ resolved (meant self.now).regions addr.0 }
     {
         let (region, offset) = self.to_region_addr(addr)?;
         let place = region
@@ -56,7 +51,7 @@ pub trait GuestMemoryBackend {
 
     /// Whether some region holds the address.
     fn address_in_range(&self, addr: GuestAddress) -> bool
-        ensures { result ≡ is_some (holding (meant self.now).regions addr.0) }
+        ensures { lawful self.now → result ≡ is_some (holding (meant self.now).regions addr.0) }
     {
         self.region_at(addr).is_some()
     }
@@ -65,15 +60,26 @@ pub trait GuestMemoryBackend {
 
     /// The address itself where some region holds it.
     fn check_address(&self, addr: GuestAddress) -> Option<GuestAddress>
-        ensures { option_map (λ a. a.0) result ≡ present (meant self.now).regions addr.0 }
+        ensures { lawful self.now → option_map (λ a. a.0) result ≡ present (meant self.now).regions addr.0 }
     {
         self.address_in_range(addr).then_some(addr)
     }
 
     /// The address plus `offset` where some region holds that.
     fn checked_offset(&self, base: GuestAddress, offset: u64) -> Option<GuestAddress>
-        ensures { option_map (λ a. a.0) result ≡ present_plus (meant self.now).regions base.0 offset }
+        ensures { lawful self.now → option_map (λ a. a.0) result ≡ present_plus (meant self.now).regions base.0 offset }
     {
         self.check_address(base.checked_add(offset)?)
     }
+}
+
+/// A backend that also tells how many regions it has and where they end.
+pub trait Surveyed: GuestMemoryBackend {
+    /// The number of regions.
+    fn num_regions(&self) -> usize
+        ensures { result ≡ length (Self.GuestMemoryBackend.meant self.now).regions };
+
+    /// The highest address of any region; 0 where there is none.
+    fn last_addr(&self) -> GuestAddress
+        ensures { Self.GuestMemoryBackend.lawful self.now → result.0 ≡ highest (Self.GuestMemoryBackend.meant self.now).regions };
 }

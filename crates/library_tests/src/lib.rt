@@ -1,6 +1,11 @@
 // Tests of the library; the values expected are worked out by hand.
 #![tactic(auto)]
 
+ghost use Rattle.std.specs.Prelude.{[], ◌∷◌};
+ghost use Rattle.region.specs.Regions.{shown};
+ghost use Rattle.region.specs.Slots.{slot_range, slot_place};
+ghost use Rattle.region.specs.Grounds.{KeepsMeaning};
+
 #[cfg(test)]
 mod tests {
     use address::address::{Address, GuestAddress, MemoryRegionAddress};
@@ -456,6 +461,48 @@ mod tests {
         assert_eq!(rt; drawn(&mut cursor, &memory), Ok(Some((0, 0x1000))));
         assert_eq!(rt; drawn(&mut cursor, &memory), Err((8, 0x12000)));
         Ok(())
+    }
+
+    // A backend of one's own: one region, of which nothing was asked when it was made. Some of its values
+    // keep their meaning, some do not.
+    #[derive(Drop)]
+    struct OneRegion {
+        region: SlotRegion,
+        host_len: u64,
+    }
+
+    impl GuestMemoryBackend for OneRegion {
+        ghost meant = { λ b. record { host = b.host_len; regions = shown slot_range slot_place b.region ∷ [] } };
+
+        ghost lawful = { λ b. KeepsMeaning (record { host = b.host_len; regions = shown slot_range slot_place b.region ∷ [] }) };
+
+        ghost keeps = { λ b h. h };
+
+        fn host_len(&self) -> u64 {
+            self.host_len
+        }
+
+        fn region_at(&self, addr: GuestAddress) -> Option<SlotRegion> {
+            let region = self.region;
+            region.to_region_addr(addr).map(|_| region)
+        }
+    }
+
+    #[test]
+    fn draws_of_an_own_backend(rt: HostRuntime) {
+        // the region ends within the host length, or it does not: what is drawn does in either case
+        for (host_len, count, answer) in [
+            (0x1000, 0x20, Ok(Some((0xff8, 8)))),
+            (0xffc, 0x20, Err((10, 0))),
+            (0xffc, 4, Ok(Some((0xff8, 4)))),
+        ] {
+            let memory = OneRegion {
+                region: SlotRegion::Ram(ram(0x1000, 0x1000, 0)),
+                host_len,
+            };
+            let mut cursor = PhysicalCursor::new(GuestAddress(0x1ff8), count);
+            assert_eq!(rt; drawn(&mut cursor, &memory), answer);
+        }
     }
 
     // The length and the first byte of a piece, or the refusal.

@@ -24,7 +24,7 @@ fn piece_at<M: GuestMemoryBackend>(
 ) -> Result<Piece, GuestMemoryError>
     requires { 1 ≤ count }
     ensures within { IfOk result (λ p. Within (M.GuestMemoryBackend.meant memory.now).host count p) }
-    ensures exact { some_piece result ≡ drawn (M.GuestMemoryBackend.meant memory.now) addr.0 count }
+    ensures exact { M.GuestMemoryBackend.lawful memory.now → some_piece result ≡ drawn (M.GuestMemoryBackend.meant memory.now) addr.0 count }
 {
     // the backend's `to_region_addr` in place of these two (tried) leaves six goals open, these two leave two
     let region = memory
@@ -66,8 +66,8 @@ impl PhysicalCursor {
     ) -> Result<Option<Piece>, GuestMemoryError>
         ensures cursor { self.new ≡ left_after self.old result }
         ensures within { IfOk result (λ o. IfSome o (λ p. Within (M.GuestMemoryBackend.meant memory.now).host self.old.count p)) }
-        ensures answer { result ≡ drawn (M.GuestMemoryBackend.meant memory.now) self.old.addr.0 self.old.count }
-        ensures longest { IfOk result (λ o. IfSome o (λ p. Longest (M.GuestMemoryBackend.meant memory.now) self.old.addr.0 self.old.count p)) }
+        ensures answer { M.GuestMemoryBackend.lawful memory.now → result ≡ drawn (M.GuestMemoryBackend.meant memory.now) self.old.addr.0 self.old.count }
+        ensures longest { M.GuestMemoryBackend.lawful memory.now → IfOk result (λ o. IfSome o (λ p. Longest (M.GuestMemoryBackend.meant memory.now) self.old.addr.0 self.old.count p)) }
     {
         if self.count == 0 {
             return Ok(None);

@@ -6,16 +6,16 @@ use crate::question::Question;
 use answers::Answer;
 use answers::failure::Failure;
 use asks::memory::{find, slices};
-use backend::backend::GuestMemoryBackend;
+use backend::backend::Surveyed;
 use std::alloc::Global;
 
 /// The answer of a memory of any kind.
-pub fn ask_memory<M: GuestMemoryBackend>(
+pub fn ask_memory<M: Surveyed>(
     heap: Global,
     memory: &M,
     question: Question,
 ) -> Result<Answer, Failure>
-    ensures { Settles result (λ x. Answers (M.GuestMemoryBackend.meant memory.now) question x) }
+    ensures { Settles result (λ x. M.GuestMemoryBackend.lawful memory.now → Answers (M.GuestMemoryBackend.meant memory.now) question x) }
 {
     match question {
         Question::Count => Ok(Answer::Number(memory.num_regions() as u64)),

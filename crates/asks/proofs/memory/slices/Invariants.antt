@@ -7,6 +7,7 @@ use Rattle.asks.proofs.memory.slices.Given as goal
 -- whatever the rest of the range draws, it goes on from what was drawn
 abbrev pub invariant-loop-piece : goal.invariant-loop-piece
 invariant-loop-piece g l =
+    g.M.GuestMemoryBackend.lawful l.memory →
     (ps : List Span) (end : Option Refusal) →
     Draws (g.M.GuestMemoryBackend.meant l.memory) l.cursor.addr.0 l.cursor.count ps end →
     Draws (g.M.GuestMemoryBackend.meant l.memory) l.address l.count (vec_items l.pieces ++ ps) end

@@ -1,6 +1,6 @@
 use Rattle.std.proofs.Common.{sym}
 use Rattle.frames.proofs.Framed.{highest_none, highest_frame, ends_by_top}
-use Rattle.frames.proofs.frames.FrameMemoryGuestMemoryBackend.last_addr.Goals as goal
+use Rattle.frames.proofs.memory.FrameMemory.last_addr.Goals as goal
 
 pub returns-in-Some : goal.returns-in-Some
 returns-in-Some c =
