@@ -1,6 +1,8 @@
 // An exchange: a box, once there is one, and the commands that it is given.
 ghost use Rattle.std.specs.Prelude.{◌≡◌, IfOk, None};
+ghost use Rattle.std.specs.Option.{ForSome};
 ghost use Rattle.answers.specs.Failures.{Settles};
+ghost use Rattle.guest_box.specs.Memories.{Kept};
 ghost use Rattle.exchange.specs.Performs.{ram_slot, window_slot, Adds, Performed, Performs};
 
 use address::address::GuestAddress;
@@ -39,7 +41,8 @@ fn window(start: u64, len: u64) -> SlotRegion
 
 /// Adds a region to those to collect.
 fn add(guest: &mut GuestBox, region: SlotRegion) -> Result<Answer, Failure>
-    ensures { Settles result (λ x. Adds guest.old region x guest.new) }
+    ensures answer { Settles result (λ x. Adds guest.old region x guest.new) }
+    ensures kept { Kept guest.new }
 {
     guest.add_region(region)?;
     Ok(Answer::Done)
@@ -47,7 +50,9 @@ fn add(guest: &mut GuestBox, region: SlotRegion) -> Result<Answer, Failure>
 
 /// Performs a command that needs a box.
 fn perform_in(guest: &mut GuestBox, heap: Global, command: Command) -> Result<Answer, Failure>
-    ensures { Settles result (λ x. Performed guest.old command x guest.new) }
+    requires { Kept guest.old }
+    ensures answer { Settles result (λ x. Performed guest.old command x guest.new) }
+    ensures kept { Kept guest.new }
 {
     match command {
         Command::Ram { start, len, place } => add(guest, ram(start, len, place)),
@@ -87,6 +92,8 @@ fn perform_in(guest: &mut GuestBox, heap: Global, command: Command) -> Result<An
 #[derive(Drop)]
 pub struct Exchange {
     inner: Option<GuestBox>,
+    // the box's own, for those who see the exchange alone
+    pub ghost kept: { ForSome inner Kept },
 }
 
 impl Exchange {

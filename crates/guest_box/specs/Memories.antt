@@ -1,5 +1,5 @@
 -- What the memory of a box means. Assumes nothing.
-use Rattle.std.specs.Prelude.{ℕ, Bool, not, List, map, length, is_some, Some, None, vec_items, Option}
+use Rattle.std.specs.Prelude.{◌≡◌, ℕ, Bool, true, not, List, map, length, is_some, Some, None, vec_items, Option}
 use Rattle.region.specs.Regions.{shown}
 use Rattle.region.specs.Slots.{slot_range, slot_place}
 use Rattle.region.specs.Grounds.{Ground}
@@ -47,6 +47,10 @@ memory_fault host (framed base vs) = frames_fault host base vs
 -- the memory passes the questions that making it anew asks
 abbrev pub passes : ℕ → Held → Bool
 passes host m = not (is_some (memory_fault host m))
+
+-- what every box carries: its memory passed its questions when it was made, so it does so again
+abbrev pub Kept : BoxState → Type 0
+Kept b = passes (length b.host) b.memory ≡ true
 
 -- its meaning as a backend
 abbrev pub ground_held : ℕ → Held → Option Ground

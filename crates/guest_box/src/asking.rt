@@ -1,11 +1,11 @@
 // What a box is asked: about its memory, and about its host bytes.
-ghost use Rattle.std.specs.Prelude.{◌≡◌, true, length};
+ghost use Rattle.std.specs.Prelude.{◌≡◌, length};
 ghost use Rattle.pieces.specs.Pieces.{piece_bytes};
 ghost use Rattle.answers.specs.declared.Answer.TheVariants.{Number};
 ghost use Rattle.answers.specs.Failures.{Settles};
 ghost use Rattle.asks.specs.Asked.{fnv, Shown};
 ghost use Rattle.survey.specs.Questions.{AnswersTo};
-ghost use Rattle.guest_box.specs.Memories.{ground_held, passes};
+ghost use Rattle.guest_box.specs.Memories.{Kept, ground_held};
 
 use crate::guest_box::GuestBox;
 use crate::memory::Memory;
@@ -23,7 +23,8 @@ use survey::surveyed::ask_memory;
 impl GuestBox {
     /// The answer of the memory, which is made anew from its parts; an error where there is none yet.
     pub fn ask(&self, heap: Global, question: Question) -> Result<Answer, Failure>
-        ensures { Settles result (λ x. AnswersTo (ground_held (length self.now.host) self.now.memory) question x) }
+        ensures answer { Settles result (λ x. AnswersTo (ground_held (length self.now.host) self.now.memory) question x) }
+        ensures kept { Kept self.now }
     {
         let host_len = self.host_len();
         // the parts passed their questions once, so each `unwrap` is proved to find what they make
@@ -43,7 +44,8 @@ impl GuestBox {
 
     /// The bytes of a piece of the host buffer.
     pub fn bytes(&self, heap: Global, piece: Piece) -> Result<Answer, Failure>
-        ensures { Settles result (λ x. Shown (piece_bytes (length self.now.host) self.now.host piece) x) }
+        ensures answer { Settles result (λ x. Shown (piece_bytes (length self.now.host) self.now.host piece) x) }
+        ensures kept { Kept self.now }
     {
         let memory: GuestRegionCollection<'_, SlotRegion> = GuestRegionCollection::new(
             self.host_len(),
@@ -54,7 +56,7 @@ impl GuestBox {
     /// The hash of the whole host buffer.
     pub fn digest(&self) -> Answer
         ensures answer { result ≡ Number (fnv 0xcbf29ce484222325 self.now.host) }
-        ensures kept { passes (length self.now.host) self.now.memory ≡ true }
+        ensures kept { Kept self.now }
     {
         Answer::Number(asks::host::digest(self.host.as_slice()))
     }

@@ -2,7 +2,7 @@
 ghost use Rattle.std.specs.Prelude.{◌≡◌, length};
 ghost use Rattle.answers.specs.Failures.{Settles};
 ghost use Rattle.guest_box.specs.Changes.{insert_answer, insert_held, remove_answer, remove_held};
-ghost use Rattle.guest_box.specs.Memories.{with_memory};
+ghost use Rattle.guest_box.specs.Memories.{Kept, with_memory};
 
 use crate::guest_box::GuestBox;
 use crate::memory::Memory;
@@ -21,7 +21,8 @@ impl GuestBox {
     /// Inserts a region, the table for the new collection having `room` entries. An error where the
     /// memory is no collection.
     pub fn insert(&mut self, heap: Global, room: u64, region: SlotRegion) -> Result<Answer, Failure>
-        ensures { Settles result (λ x. (x ≡ insert_answer (length self.old.host) room self.old.memory region) × (self.new ≡ with_memory self.old (insert_held (length self.old.host) room self.old.memory region))) }
+        ensures answer { Settles result (λ x. (x ≡ insert_answer (length self.old.host) room self.old.memory region) × (self.new ≡ with_memory self.old (insert_held (length self.old.host) room self.old.memory region))) }
+        ensures kept { Kept self.new }
     {
         let Memory::Regions(regions) = &self.memory else {
             return Err(Failure::Error);
@@ -40,7 +41,8 @@ impl GuestBox {
         start: u64,
         len: u64,
     ) -> Result<Answer, Failure>
-        ensures { Settles result (λ x. (x ≡ remove_answer room self.old.memory start len) × (self.new ≡ with_memory self.old (remove_held room self.old.memory start len))) }
+        ensures answer { Settles result (λ x. (x ≡ remove_answer room self.old.memory start len) × (self.new ≡ with_memory self.old (remove_held room self.old.memory start len))) }
+        ensures kept { Kept self.new }
     {
         let Memory::Regions(regions) = &self.memory else {
             return Err(Failure::Error);

@@ -1,5 +1,6 @@
 // A box: its host bytes, the regions to collect, and its memory.
 ghost use Rattle.std.specs.Prelude.{◌≡◌, length};
+ghost use Rattle.guest_box.specs.Memories.{Kept};
 
 use crate::memory::Memory;
 use region::slot::SlotRegion;
@@ -26,8 +27,9 @@ impl Model for GuestBox {
 
 impl GuestBox {
     /// The number of host bytes.
-    pub(crate) fn host_len(&self) -> u64
-        ensures { result ≡ length self.now.host }
+    pub fn host_len(&self) -> u64
+        ensures answer { result ≡ length self.now.host }
+        ensures kept { Kept self.now }
     {
         self.host.len() as u64
     }

@@ -5,10 +5,10 @@ use Rattle.guest_box.proofs.guest_box.GuestBox.insert.Goals as goal
 
 pub invariant_of-self : goal.invariant_of-self
 invariant_of-self c =
-    let h = rw (← c.self.view_is) at c.host_len.ensures in
+    let h = rw (← c.self.view_is) at c.host_len.ensures.answer in
     grind (arith, common_steps)
 
-pub returns : goal.returns
-returns c =
-    let h = rw (← c.self.view_is) at c.host_len.ensures in
+pub returns-clause-answer : goal.returns-clause-answer
+returns-clause-answer c =
+    let h = rw (← c.self.view_is) at c.host_len.ensures.answer in
     grind (arith, common_steps)

@@ -5,5 +5,5 @@ use Rattle.guest_box.proofs.guest_box.GuestBox.try_frame.Goals as goal
 
 pub invariant_of-self : goal.invariant_of-self
 invariant_of-self c =
-    let h = rw (← c.self.view_is) at c.host_len-host_len.ensures in
+    let h = rw (← c.self.view_is) at c.host_len-host_len.ensures.answer in
     grind (arith, common_steps)
