@@ -16,7 +16,8 @@ fn ends_within(place: u64, offset: u64, len: u64, host_len: u64) -> bool
     place <= host_len && offset <= host_len - place && len <= host_len - place - offset
 }
 
-/// The piece of at most `count` bytes, at least one, from the address on.
+/// The piece of at most `count` bytes, at least one, from the address on. Where a backend does not keep
+/// its meaning the comparisons refuse what would lie outside the region or the host buffer.
 fn piece_at<M: GuestMemoryBackend>(
     memory: &M,
     addr: GuestAddress,
@@ -40,7 +41,6 @@ fn piece_at<M: GuestMemoryBackend>(
     let place = region
         .host_place()
         .ok_or(GuestMemoryError::HostAddressNotAvailable)?;
-    // never a no, since a region ends within the host buffer: it shows that the sum below fits
     if !ends_within(place, offset, len, memory.host_len()) {
         return Err(GuestMemoryError::HostAddressNotAvailable);
     }
